@@ -1,4 +1,5 @@
 -- The rows in turn; what row 1 leaves, and what is left in the check's tables.
+use Rattle.std.specs.Prelude.{Result, Ok, Err, Some, None}
 use Prim.Native.Nat.{ℕ, ◌%◌, ◌*◌, ◌<◌, ◌≤◌}
 use mathlib.Core.Path.{◌∙◌, ◌≡◌, ap, refl, sym}
 use mathlib.Core.Bool.{Bool, ◌||◌, false, not, true}
@@ -7,20 +8,19 @@ use native.Mathlib.Omega.{arith}
 use lib.Dec.{eqb, ltb}
 use lib.ListN.{length}
 use borrow.Author.Tests.{eqb-false, eqb-true, ltb-false, not-false}
-use Rattle.counting.specs.Search.{first}
+use Rattle.counting.specs.Search.{first, found}
 use Rattle.counting.proofs.Bools.{or_none}
 use Rattle.answer.specs.Answer.{refusal, result_of}
 use Rattle.answer.specs.Rows.{answer_of, whole}
 use Rattle.answer.specs.claims.Faults.{row_at}
 use Rattle.answer.specs.work.Faults.{since}
-use Rattle.answer.proofs.Rows.{row_passes, row_refuses, rows_end, whole_fault, whole_fine}
+use Rattle.answer.proofs.Rows.{row_clear, row_found, row_passes, row_refuses, rows_end, whole_fault, whole_fine}
 use Rattle.grid.specs.Grid.{Grid, built, cell_count, crossings}
 use Rattle.slots.specs.Limits.{most_cells}
 use Rattle.grid.specs.Rows.{bad_length, bad_lists, grid_answer, rows}
 use Rattle.grid.specs.work.Work.{Neighbours, WhereAccepted, Worked, answer_from, answer_with, listed_at}
 use Rattle.counting.specs.work.Tables.{Table}
-use Rattle.grid.specs.declared.Checked.{Checked}
-use Rattle.grid.specs.declared.Checked.TheVariants.{Crossings, Refused}
+use Rattle.answer.specs.declared.Refusal.{Refusal}
 use Rattle.grid.proofs.Starts.{built_is, lists_fine}
 
 -- row n, and row m which follows it
@@ -33,6 +33,17 @@ module _ (G : Grid) (n m : ℕ) (follows : since n (rows G) ≡ row_at (since n 
   pub answer_refuses : p < (row_at (since n (rows G)) 0).places → refusal (row_at (since n (rows G)) 0).number p ≡ answer_from n G
   unfolding answer_from
   answer_refuses l = row_refuses (row_at (since n (rows G)) 0) (since m (rows G)) _ p e l ∙ ap (λ r. answer_of r (result_of (crossings G.counts ∷ []))) (sym follows)
+
+-- the same where the row's lowest fault is sought
+module _ (G : Grid) (n m : ℕ) (follows : since n (rows G) ≡ row_at (since n (rows G)) 0 ∷ since m (rows G)) where
+  pub answer_found : (p : ℕ) → Some p ≡ found (row_at (since n (rows G)) 0).fault (row_at (since n (rows G)) 0).places
+      → refusal (row_at (since n (rows G)) 0).number p ≡ answer_from n G
+  unfolding answer_from
+  answer_found p e = row_found (row_at (since n (rows G)) 0) (since m (rows G)) _ p e ∙ ap (λ r. answer_of r (result_of (crossings G.counts ∷ []))) (sym follows)
+
+  pub answer_clear : None ≡ found (row_at (since n (rows G)) 0).fault (row_at (since n (rows G)) 0).places → answer_from m G ≡ answer_from n G
+  unfolding answer_from
+  answer_clear e = row_clear (row_at (since n (rows G)) 0) (since m (rows G)) _ e ∙ ap (λ r. answer_of r (result_of (crossings G.counts ∷ []))) (sym follows)
 
 -- the end
 pub answer_end : (G : Grid) → result_of (crossings G.counts ∷ []) ≡ answer_from 11 G
@@ -84,11 +95,11 @@ verdict G wrong e = go wrong e (bad_length G.cells) refl ∙ ap (λ b. answer_wi
     go false q l h = let f = lists_fine G.edges G.counts G.starts (sym q) in ap (answer_with false) (sym (built_is G f.1 f.2))
 
 -- a fact that holds anyway
-pub where-accepted : {T : Type 0} (r : Checked) → T → WhereAccepted r T
-where-accepted (Crossings n) t = t
-where-accepted (Refused row place) t = tt
+pub where-accepted : {T : Type 0} (r : Result ℕ Refusal) → T → WhereAccepted r T
+where-accepted (Ok n) t = t
+where-accepted (Err refusal) t = tt
 
-pub worked : (G : Grid) (near sides : List ℕ) (r : Checked) → Neighbours G.cells near
+pub worked : (G : Grid) (near sides : List ℕ) (r : Result ℕ Refusal) → Neighbours G.cells near
     → WhereAccepted r (Table (listed_at G) (6 * cell_count G.cells) sides) → WhereAccepted r (Worked G near sides)
-worked G near sides (Crossings n) h t = record { near_is = h; sided = t }
-worked G near sides (Refused row place) h t = tt
+worked G near sides (Ok n) h t = record { near_is = h; sided = t }
+worked G near sides (Err refusal) h t = tt

@@ -1,6 +1,7 @@
 -- Accepted exactly where no row has a fault; refused at the first row with one, at its lowest place; crossing numbers.
+use Rattle.std.specs.Prelude.{Result}
 use Prim.Native.Nat.{ℕ}
-use mathlib.Core.Path.{◌≡◌, ap, refl}
+use mathlib.Core.Path.{◌∙◌, ◌≡◌, ap, refl, sym}
 use mathlib.Core.Logic.{inl, inr, ⊎_elim}
 use mathlib.Core.Bool.{true}
 use mathlib.Core.List.{List, [], ◌∷◌}
@@ -11,15 +12,13 @@ use Rattle.counting.proofs.Pack.{col_lt, col_pack, pack_lt, pre_le, row_lt, row_
 use Rattle.answer.specs.Answer.{is_result, result_of}
 use Rattle.answer.specs.claims.Faults.{AllClear}
 use Rattle.answer.specs.work.Faults.{numbered}
-use Rattle.answer.proofs.Answer.{mixed, refusals}
 use Rattle.answer.proofs.Rows.{answer_some, clear_answer, clear_or_refusal, refusal_answer, refused_by, result_clear, result_is}
 use Rattle.grid.specs.Check.{check_numbers}
 use Rattle.grid.specs.claims.Claims.{AcceptsClear, AcceptsOrRefuses, AnswerTold, ClearAccepted, CrossingNumbers, FaultRefused, OpenTold, RefusesFault}
 use Rattle.grid.specs.Grid.{Grid, count_of, crossings, start}
-use Rattle.grid.specs.Opening.{open_answer, opened}
+use Rattle.grid.specs.Opening.{open_answer}
 use Rattle.grid.specs.Rows.{grid_answer, rows, accepts}
-use Rattle.grid.specs.declared.Checked.{Checked}
-use Rattle.grid.specs.declared.Checked.TheVariants.{Crossings, Refused}
+use Rattle.answer.specs.declared.Refusal.{Refusal}
 
 rows_numbered : (G : Grid) → numbered (rows G) ≡ true
 unfolding rows numbered
@@ -54,19 +53,15 @@ pub accepted_is : (G : Grid) → accepts G ≡ true → grid_answer G ≡ result
 unfolding grid_answer
 accepted_is G h = result_is (rows G) (crossings G.counts ∷ []) (rows_numbered G) h
 
--- an answer that is not empty is read from one value alone
-pub told : (answer : List ℕ) → ([] ≡ answer → ⊥) → (r s : Checked) → check_numbers r ≡ answer → check_numbers s ≡ answer → r ≡ s
-told answer some (Crossings n) (Crossings m) a b = let x : n ≡ m = cc in rw x
-told answer some (Crossings n) (Refused k p) a b = absurd (mixed answer some k p (n ∷ []) a b)
-told answer some (Refused k p) (Crossings n) a b = absurd (mixed answer some k p (n ∷ []) b a)
-told answer some (Refused k p) (Refused l q) a b = let (x, y) = refusals answer some k p l q a b in rw (x, y)
+-- an answer is read from one value alone
+pub told : (answer : List ℕ) → (r s : Result ℕ Refusal) → check_numbers r ≡ answer → check_numbers s ≡ answer → r ≡ s
+told answer r s a b = Rattle.answer.proofs.Told.answer_told (λ n. n ∷ []) (λ n m e. cc) r s (a ∙ sym b)
 
 pub answer_told : AnswerTold
-answer_told G = told (grid_answer G) (never_empty G)
+answer_told G = told (grid_answer G)
 
 pub open_told : OpenTold
-unfolding open_answer
-open_told G = told (open_answer G) (never_empty (opened G))
+open_told G = told (open_answer G)
 
 pub crossing_numbers : CrossingNumbers
 unfolding start

@@ -1,4 +1,5 @@
 -- Laws of the tables of an accepted grid.
+use Rattle.std.specs.Prelude.{Result, Ok, Err}
 use Prim.Native.Nat.{ℕ, suc, ◌%◌, ◌*◌, ◌+◌, ◌-◌, ◌/◌, ◌<◌, ◌≤◌}
 use mathlib.Core.Path.{◌∙◌, ◌≡◌, ap, refl, subst, sym}
 use mathlib.Core.Logic.{◌≢◌, ◌⊎◌, inl, inr, ⊎_elim}
@@ -15,7 +16,7 @@ use Rattle.counting.proofs.Bools.{not_clash}
 use Rattle.counting.proofs.Search.{first_at}
 use Rattle.counting.proofs.Stored.{filled_ext}
 use Rattle.answer.specs.Answer.{result_of}
-use Rattle.answer.proofs.Answer.{refused_not}
+use Rattle.answer.proofs.Told.{refusal_not}
 use Rattle.grid.specs.claims.Accepted.{EdgeNumbers, Sound}
 use Rattle.grid.specs.Check.{check_numbers}
 use Rattle.grid.specs.Grid.{Grid, built, cell_count, edge_number, face_name, is_edge, same_face}
@@ -24,11 +25,9 @@ use Rattle.slots.specs.Limits.{most_slots}
 use Rattle.grid.specs.Rows.{grid_answer, accepts}
 use Rattle.grid.specs.work.Tables.{Laid, name_at, side_at}
 use Rattle.grid.specs.work.Work.{Copying, Lowering, Neighbours, RisingCells, WhereAccepted, Worked, listed_at, lower_place}
-use Rattle.grid.specs.declared.Checked.{Checked}
-use Rattle.grid.specs.declared.Checked.TheVariants.{Crossings, Refused}
+use Rattle.answer.specs.declared.Refusal.{Refusal}
 use Rattle.grid.proofs.Accepts.{acceptance_yields, ordered}
 use Rattle.grid.proofs.Sound.{edge_numbers}
-use Rattle.grid.proofs.Claims.{never_empty}
 use Rattle.grid.proofs.Packed.{one_slot, true_same}
 use Rattle.grid.proofs.Starts.{built_is}
 
@@ -95,17 +94,17 @@ listed_side G E j h =
 
 module _ (G : Grid) where
   -- a refusal's number is not 0
-  pub refused_keeps : (row place : ℕ) → check_numbers (Refused row place) ≡ grid_answer G → accepts G ≡ false
-  refused_keeps row place e = refused_not (grid_answer G) (never_empty G) row place e
+  pub refused_keeps : (refusal : Refusal) → check_numbers (Err refusal) ≡ grid_answer G → accepts G ≡ false
+  refused_keeps refusal e = rw (← e) (refusal_not refusal)
 
-  pub crossings_accept : (n : ℕ) → check_numbers (Crossings n) ≡ grid_answer G → accepts G ≡ true
+  pub crossings_accept : (n : ℕ) → check_numbers (Ok n) ≡ grid_answer G → accepts G ≡ true
   crossings_accept n e = rw (← e)
 
   pub laid_kept : accepts G ≡ false → (names sides : List ℕ) → Laid G names sides names sides
   laid_kept e names sides = record { names_are = rw e; sides_are = rw e }
 
   -- an answer that is known to be a result
-  module _ (r : Checked) (n : ℕ) (e : r ≡ Crossings n) (h : check_numbers r ≡ grid_answer G) where
+  module _ (r : Result ℕ Refusal) (n : ℕ) (e : r ≡ Ok n) (h : check_numbers r ≡ grid_answer G) where
     is-result : grid_answer G ≡ result_of (n ∷ [])
     is-result = sym h ∙ ap check_numbers e
 

@@ -1,4 +1,5 @@
 -- The opening call minds only the number of the starts.
+use Rattle.std.specs.Prelude.{Result, Ok, Err}
 use Prim.Native.Nat.{ℕ}
 use native.Mathlib.Nat.{not-suc-le-zero}
 use mathlib.Core.Path.{◌∙◌, ◌≡◌, ap, sym}
@@ -15,8 +16,7 @@ use Rattle.grid.specs.Grid.{Grid, built, grid_of, start}
 use Rattle.grid.specs.Opening.{open_answer, open_starts, opened}
 use Rattle.grid.specs.Rows.{bad_numbers, grid_answer}
 use Rattle.grid.specs.work.Work.{Starting, answer_with}
-use Rattle.grid.specs.declared.Checked.{Checked}
-use Rattle.grid.specs.declared.Checked.TheVariants.{Crossings, Refused}
+use Rattle.answer.specs.declared.Refusal.{Refusal}
 use Rattle.grid.proofs.Answers.{verdict}
 use Rattle.grid.proofs.Crossings.{start_zero}
 use Rattle.grid.proofs.Filled.{refused_keeps, told_accepts, told_sound}
@@ -36,12 +36,12 @@ module _ (G : Grid) where
   open_verdict wrong e = verdict (opened G) wrong (e ∙ filled_lists G.edges G.counts G.starts)
 
   -- what the call leaves
-  module _ (r : Checked) (q : check_numbers r ≡ open_answer G) where
-    pub open_refused : (row place : ℕ) → r ≡ Refused row place → G.starts ≡ open_starts G
+  module _ (r : Result ℕ Refusal) (q : check_numbers r ≡ open_answer G) where
+    pub open_refused : (refusal : Refusal) → r ≡ Err refusal → G.starts ≡ open_starts G
     unfolding open_answer open_starts
-    open_refused row place e = rw (refused_keeps (opened G) row place (ap check_numbers (sym e) ∙ q))
+    open_refused refusal e = rw (refused_keeps (opened G) refusal (ap check_numbers (sym e) ∙ q))
 
-    module _ (n : ℕ) (e : r ≡ Crossings n) where
+    module _ (n : ℕ) (e : r ≡ Ok n) where
       pub open_starting : Starting G.counts 0 0 G.starts
       unfolding open_answer opened
       open_starting =

@@ -1,4 +1,5 @@
 -- Setting a count of an accepted grid, and lists of settings.
+use Rattle.std.specs.Prelude.{Result, Ok, Err}
 use Prim.Native.Nat.{ℕ, ◌+◌, ◌-◌, ◌<◌, ◌≤◌}
 use mathlib.Core.Path.{◌∙◌, ◌≡◌, ap, ap₂, refl, sym}
 use mathlib.Core.Bool.{Bool, false, true}
@@ -10,7 +11,9 @@ use lib.ListN.{get_or, length, length-set, set}
 use lib.Seq.{get_or-set_other, get_or-set_same}
 use borrow.Author.Tests.{le-leb, le-ltb, leb-false, lt-leb, lt-ltb, ltb-false}
 use Rattle.answer.specs.Answer.{is_result, refusal, result_of}
+use Rattle.answer.specs.Refusal.{refusal_numbers}
 use Rattle.answer.proofs.Answer.{no_nil, pick_some}
+use Rattle.answer.proofs.Told.{refusal_not}
 use Rattle.counting.specs.Pick.{pick}
 use Rattle.counting.specs.Stored.{filled}
 use Rattle.counting.proofs.Bools.{clash}
@@ -23,8 +26,7 @@ use Rattle.grid.specs.Rows.{grid_answer, too_many, accepts}
 use Rattle.grid.specs.claims.Setting.{Setting, set_all, set_grid}
 use Rattle.grid.specs.Setting.{change_answer, set_answer, set_counts, set_starts}
 use Rattle.grid.specs.work.Work.{Changeable, Changed, Starting}
-use Rattle.grid.specs.declared.Checked.{Checked}
-use Rattle.grid.specs.declared.Checked.TheVariants.{Crossings, Refused}
+use Rattle.answer.specs.declared.Refusal.{Refusal}
 use Rattle.grid.proofs.Accepts.{acceptance_yields, accepted_answer}
 use Rattle.grid.proofs.Claims.{accepted_is, never_empty, told}
 use Rattle.grid.proofs.Crossings.{start_kept, start_mono, start_next, start_set}
@@ -99,6 +101,11 @@ module _ (counts : List ℕ) (edge count : ℕ) where
   unfolding change_answer too_many
   change_10 h l k = rw (lt-leb (length counts) edge h, le-ltb most_count count l, lt-ltb most_crossings (crossings changed) k)
 
+  -- a refusal keeps both lists
+  pub change_refused : (starts : List ℕ) (r : Refusal) → refusal_numbers r ≡ change_answer counts edge count
+      → Changed counts starts edge count counts starts (refusal_numbers r)
+  change_refused starts r e = record { answered = e; counts_are = rw (refusal_not r); starts_are = rw (refusal_not r) }
+
   pub change_made : Settable counts edge count → result_of (crossings changed ∷ []) ≡ change_answer counts edge count
   unfolding change_answer too_many
   change_made s = rw (lt-leb (length counts) edge s.listed, le-ltb most_count count s.within, le-ltb most_crossings (crossings changed) s.few)
@@ -164,16 +171,16 @@ module _ (G : Grid) (edge count : ℕ) where
   set_accepted a = rw a
 
   -- what the call leaves
-  module _ (r : Checked) (q : check_numbers r ≡ grid_answer G) where
-    pub set_refused : (row place : ℕ) → r ≡ Refused row place
-        → (check_numbers (Refused row place) ≡ set_answer G edge count) × (G.counts ≡ set_counts G edge count) × (G.starts ≡ set_starts G edge count)
+  module _ (r : Result ℕ Refusal) (q : check_numbers r ≡ grid_answer G) where
+    pub set_refused : (refusal : Refusal) → r ≡ Err refusal
+        → (check_numbers (Err refusal) ≡ set_answer G edge count) × (G.counts ≡ set_counts G edge count) × (G.starts ≡ set_starts G edge count)
     unfolding set_answer set_counts set_starts
-    set_refused row place e =
-        let h : check_numbers (Refused row place) ≡ grid_answer G = ap check_numbers (sym e) ∙ q in
-        let k = refused_keeps G row place h in
+    set_refused refusal e =
+        let h : check_numbers (Err refusal) ≡ grid_answer G = ap check_numbers (sym e) ∙ q in
+        let k = refused_keeps G refusal h in
         (rw k h, rw (k, k), rw (k, k))
 
-    pub set_done : (n : ℕ) → r ≡ Crossings n → (counts starts answer : List ℕ) → Changed G.counts G.starts edge count counts starts answer
+    pub set_done : (n : ℕ) → r ≡ Ok n → (counts starts answer : List ℕ) → Changed G.counts G.starts edge count counts starts answer
         → (answer ≡ set_answer G edge count) × (counts ≡ set_counts G edge count) × (starts ≡ set_starts G edge count)
     unfolding set_counts set_starts
     set_done n e counts starts answer C =
@@ -184,7 +191,7 @@ module _ (G : Grid) (edge count : ℕ) where
         )
 
 -- what the change starts from
-pub set_changeable : (G : Grid) (r : Checked) → check_numbers r ≡ grid_answer G → (n : ℕ) → r ≡ Crossings n → Changeable G.counts G.starts n
+pub set_changeable : (G : Grid) (r : Result ℕ Refusal) → check_numbers r ≡ grid_answer G → (n : ℕ) → r ≡ Ok n → Changeable G.counts G.starts n
 set_changeable G r q n e =
     let S = told_sound G r n e q in
     let h = sym (accepted_is G (told_accepts G r n e q)) ∙ sym q ∙ ap check_numbers e in
@@ -196,7 +203,7 @@ set_changeable G r q n e =
     }
 
 pub set_told : SetTold
-set_told G edge count = told (set_answer G edge count) (set_some G edge count)
+set_told G edge count = told (set_answer G edge count)
 
 -- what settings keep of an accepted grid
 record Kept (G H : Grid) : Type 1 where

@@ -1,9 +1,7 @@
 -- The answer of the grid check, as the numbers of 01.
-use Rattle.std.specs.Prelude.{ℕ, List, [], ◌∷◌}
-use Rattle.answer.specs.Answer.{result_of, refused}
-use Rattle.grid.specs.declared.Checked.{Checked}
-use Rattle.grid.specs.declared.Checked.TheVariants.{Crossings, Refused}
+use Rattle.std.specs.Prelude.{ℕ, List, [], ◌∷◌, Result}
+use Rattle.answer.specs.Refusal.{answer_numbers}
+use Rattle.answer.specs.declared.Refusal.{Refusal}
 
-abbrev pub check_numbers : Checked → List ℕ
-check_numbers (Crossings n) = result_of (n ∷ [])
-check_numbers (Refused row place) = refused row place
+abbrev pub check_numbers : Result ℕ Refusal → List ℕ
+check_numbers = answer_numbers (λ n. n ∷ [])

@@ -1,6 +1,7 @@
 pub mod Grid
 pub mod Rows
 pub mod Check
+pub mod Lent
 pub mod Opening
 pub mod Setting
 pub mod claims

@@ -1,6 +1,6 @@
 // Rows 2, 6, 18, 7 and 8: the edges.
 ghost use Rattle.std.specs.Prelude.{◌≡◌, ◌+◌, ◌*◌, ◌/◌, ◌<◌, ◌≤◌, length, get_or};
-ghost use Rattle.counting.specs.Search.{first, some};
+ghost use Rattle.counting.specs.Search.{first, found, some};
 ghost use Rattle.grid.specs.Grid.{built, cell_count};
 ghost use Rattle.grid.specs.Rows.{bad_numbers, bad_start, bad_lists, bad_edge, bad_count, unused};
 ghost use Rattle.grid.specs.work.Runs.{Talliable, Tallied};
@@ -87,41 +87,35 @@ fn bad_edge(edges: &[u16], e: usize) -> bool
     edge_key(edges, e) <= edge_key(edges, e - 1)
 }
 
-// The lowest edge whose ends do not rise, or that is not after its predecessor; the number of edges where there is none.
-pub fn edge_order(edges: &[u16]) -> usize
-    ensures { result ≡ first (bad_edge edges.now) (length edges.now / 2) }
+// The lowest edge whose ends do not rise, or that is not after its predecessor.
+pub fn edge_order(edges: &[u16]) -> Option<usize>
+    ensures { result ≡ found (bad_edge edges.now) (length edges.now / 2) }
 {
-    let n = edges.len() / 2;
-    let mut e = 0;
-    while e < n {
+    for e in 0..edges.len() / 2 {
         if bad_edge(edges, e) {
-            return e;
+            return Some(e);
         }
-        e += 1;
     }
-    n
+    None
 }
 
-pub(crate) fn row_6(edges: &[u16], counts: &[u16]) -> usize
+pub(crate) fn row_6(edges: &[u16], counts: &[u16]) -> Option<usize>
     requires { length edges.now ≡ 2 * length counts.now }
-    ensures { result ≡ first (bad_edge edges.now) (length counts.now) }
+    ensures { result ≡ found (bad_edge edges.now) (length counts.now) }
 {
     edge_order(edges)
 }
 
-// The lowest edge whose count is above 4,095; the number of edges where there is none.
-pub fn row_18(counts: &[u16]) -> usize
-    ensures { result ≡ first (bad_count counts.now) (length counts.now) }
+// The lowest edge whose count is above 4,095.
+pub fn row_18(counts: &[u16]) -> Option<usize>
+    ensures { result ≡ found (bad_count counts.now) (length counts.now) }
 {
-    let n = counts.len();
-    let mut e = 0;
-    while e < n {
+    for e in 0..counts.len() {
         if MOST_COUNT < counts[e] {
-            return e;
+            return Some(e);
         }
-        e += 1;
     }
-    n
+    None
 }
 
 // The lowest listed edge that no cell has; the number of edges where there is none. Of more edges than the cells have, one of the first ones is in no

@@ -7,6 +7,7 @@ ghost use Rattle.slots.specs.Limits.{most_cells};
 ghost use Rattle.grid.specs.Rows.{grid_answer, repeats};
 ghost use Rattle.counting.specs.Search.{first};
 ghost use Rattle.grid.specs.Check.{check_numbers};
+ghost use Rattle.grid.specs.Lent.{lent};
 ghost use Rattle.grid.specs.work.Shared.{capped};
 ghost use Rattle.grid.specs.work.Tables.{Laid};
 ghost use Rattle.grid.specs.Opening.{open_answer, open_starts};
@@ -14,6 +15,8 @@ ghost use Rattle.grid.specs.Setting.{set_answer, set_counts, set_starts};
 ghost use Rattle.grid.specs.work.Work.{RisingCells, Early, listed_at, answer_from, answer_with, Celling, Numbering, CellTables, EdgeTables, Edging, Siding, Using, Linkable, Blank, Worked, WhereAccepted, Changeable, Changed};
 ghost use Rattle.counting.specs.work.Tables.{Table};
 ghost use Rattle.grid.specs.work.Walks.{ChainTables, LowChains, Comparable, Fresh};
+
+use answer::{Refusal, Row};
 
 mod cells;
 mod edges;
@@ -38,11 +41,13 @@ const FEW_SLOTS: usize = 4 * FEW_CELLS;
 
 const FEW_EDGES: usize = 6 * FEW_CELLS;
 
-// The number of crossings, or the number and the place of a refusal.
+// A grid's lists, as lent: four nodes to a cell, two to an edge, a count to an edge, and its start.
 #[derive(Clone, Copy)]
-pub enum Checked {
-    Crossings(u32),
-    Refused(u8, usize),
+pub struct Grid<'a> {
+    pub cells: &'a [u16],
+    pub edges: &'a [u16],
+    pub counts: &'a [u16],
+    pub starts: &'a [u32],
 }
 
 pub(crate) fn size(x: u16) -> u32
@@ -78,19 +83,19 @@ fn last_rows(
     top: &[u16],
     degree: &[u16],
     marks: &mut [u16],
-) -> Checked
+) -> Result<u32, Refusal>
     requires { Linkable (built cells.now edges.now counts.now) near.now sides.now top.now degree.now marks.old }
     ensures { check_numbers result ≡ answer_from 9 (built cells.now edges.now counts.now) }
 {
     let p9 = links::row_9(cells, edges, counts, near, sides, top, degree, marks);
     if p9 < counts.len() {
-        return Checked::Refused(9, p9);
+        return Err(Row::EdgeUnlinked.at(p9));
     }
     let s = total(counts);
     if MOST_CROSSINGS < s {
-        return Checked::Refused(10, 0);
+        return Err(Row::Crossings.at(0));
     }
-    Checked::Crossings(s)
+    Ok(s)
 }
 
 // Row 8, and those after it, where every edge of a cell is listed.
@@ -103,14 +108,14 @@ fn used_rows(
     top: &[u16],
     degree: &[u16],
     marks: &mut [u16],
-) -> Checked
+) -> Result<u32, Refusal>
     requires { Using (built cells.now edges.now counts.now) near.now sides.now top.now degree.now marks.old }
     ensures result_value { check_numbers result ≡ answer_from 8 (built cells.now edges.now counts.now) }
     ensures where_accepted { WhereAccepted result (Table (listed_at (built cells.now edges.now counts.now)) (6 * cell_count cells.now) sides.now) }
 {
     let p8 = edges::row_8(cells, edges, counts, sides, top);
     if p8 < counts.len() {
-        return Checked::Refused(8, p8);
+        return Err(Row::EdgeStray.at(p8));
     }
     last_rows(cells, edges, counts, near, sides, top, degree, marks)
 }
@@ -133,7 +138,7 @@ fn side_rows(
     degree: &mut [u16],
     marks: &mut [u16],
     sides: &mut [u16],
-) -> Checked
+) -> Result<u32, Refusal>
     requires { Siding (built cells.now edges.now counts.now) near.now ranks.now h0.now x0.now h1.now x1.now h2.now x2.now tab.old top.old degree.old marks.old sides.old }
     ensures result_value { check_numbers result ≡ answer_from 7 (built cells.now edges.now counts.now) }
     ensures where_accepted { WhereAccepted result (Table (listed_at (built cells.now edges.now counts.now)) (6 * cell_count cells.now) sides.new) }
@@ -142,7 +147,7 @@ fn side_rows(
     runs::place_sides(cells, edges, m, ranks, h0, x0, h1, x1, h2, x2, tab, sides);
     let p7 = edges::row_7(cells, sides, top, degree);
     if p7 < cells.len() / 4 {
-        return Checked::Refused(7, p7);
+        return Err(Row::EdgeMissing.at(p7));
     }
     used_rows(cells, edges, counts, near, sides, top, degree, marks)
 }
@@ -165,18 +170,16 @@ fn edge_rows(
     degree: &mut [u16],
     marks: &mut [u16],
     sides: &mut [u16],
-) -> Checked
+) -> Result<u32, Refusal>
     requires { Edging (built cells.now edges.now counts.now) near.now ranks.now h0.now x0.now h1.now x1.now h2.now x2.now tab.old top.old degree.old marks.old sides.old }
     ensures result_value { check_numbers result ≡ answer_from 6 (built cells.now edges.now counts.now) }
     ensures where_accepted { WhereAccepted result (Table (listed_at (built cells.now edges.now counts.now)) (6 * cell_count cells.now) sides.new) }
 {
-    let p6 = edges::row_6(edges, counts);
-    if p6 < counts.len() {
-        return Checked::Refused(6, p6);
+    if let Some(e) = edges::row_6(edges, counts) {
+        return Err(Row::EdgeOrder.at(e));
     }
-    let p18 = edges::row_18(counts);
-    if p18 < counts.len() {
-        return Checked::Refused(18, p18);
+    if let Some(e) = edges::row_18(counts) {
+        return Err(Row::Count.at(e));
     }
     side_rows(
         cells, edges, counts, near, ranks, h0, x0, h1, x1, h2, x2, tab, top, degree, marks, sides,
@@ -259,7 +262,7 @@ fn table_rows(
     top: &mut [u16],
     degree: &mut [u16],
     marks: &mut [u16],
-) -> Checked
+) -> Result<u32, Refusal>
     requires numbering { Numbering (built cells.now edges.now counts.now) near.old sides.old }
     requires cell_tables { CellTables (cell_count cells.now) labels.old ranks.old at.old faces.old same.old }
     requires chain_tables { ChainTables (cell_count cells.now) h0.old x0.old h1.old x1.old h2.old x2.old }
@@ -273,10 +276,10 @@ fn table_rows(
     );
     let p = early_rows(cells, many, h0, x0, faces, at, same, near);
     if p < n {
-        return Checked::Refused(4, p);
+        return Err(Row::CellRepeated.at(p));
     }
     if p < 2 * n {
-        return Checked::Refused(5, p - n);
+        return Err(Row::FaceCrowded.at(p - n));
     }
     edge_rows(
         cells, edges, counts, near, ranks, h0, x0, h1, x1, h2, x2, tab, top, degree, marks, sides,
@@ -290,7 +293,7 @@ fn few_rows(
     counts: &[u16],
     near: &mut [u16],
     sides: &mut [u16],
-) -> Checked
+) -> Result<u32, Refusal>
     requires cells_bound { cell_count cells.now ≤ 64 }
     requires numbering { Numbering (built cells.now edges.now counts.now) near.old sides.old }
     ensures result_value { check_numbers result ≡ answer_from 4 (built cells.now edges.now counts.now) }
@@ -342,7 +345,7 @@ fn many_rows(
     counts: &[u16],
     near: &mut [u16],
     sides: &mut [u16],
-) -> Checked
+) -> Result<u32, Refusal>
     requires { Numbering (built cells.now edges.now counts.now) near.old sides.old }
     ensures result_value { check_numbers result ≡ answer_from 4 (built cells.now edges.now counts.now) }
     ensures where_accepted { WhereAccepted result (Worked (built cells.now edges.now counts.now) near.new sides.new) }
@@ -393,7 +396,7 @@ fn cell_rows(
     counts: &[u16],
     near: &mut [u16],
     sides: &mut [u16],
-) -> Checked
+) -> Result<u32, Refusal>
     requires { Celling (built cells.now edges.now counts.now) near.old sides.old }
     ensures result_value { check_numbers result ≡ answer_from 3 (built cells.now edges.now counts.now) }
     ensures where_accepted { WhereAccepted result (Worked (built cells.now edges.now counts.now) near.new sides.new) }
@@ -401,7 +404,7 @@ fn cell_rows(
     let n = cells.len() / 4;
     let p3 = cells::row_3(cells);
     if p3 < n {
-        return Checked::Refused(3, p3);
+        return Err(Row::CellNodes.at(p3));
     }
     if n <= FEW_CELLS {
         return few_rows(cells, edges, counts, near, sides);
@@ -417,23 +420,23 @@ fn all_rows(
     wrong: bool,
     near: &mut [u16],
     sides: &mut [u16],
-) -> Checked
+) -> Result<u32, Refusal>
     requires edges_len { wrong ≡ false → length edges.now ≡ 2 * length counts.now }
     requires blank { cell_count cells.now ≤ most_cells → Blank (cell_count cells.now) near.old sides.old }
     ensures result_value { check_numbers result ≡ answer_with wrong (built cells.now edges.now counts.now) }
     ensures where_accepted { WhereAccepted result (Worked (built cells.now edges.now counts.now) near.new sides.new) }
 {
     if cells::row_1(cells) {
-        return Checked::Refused(1, 0);
+        return Err(Row::CellList.at(0));
     }
     if wrong {
-        return Checked::Refused(2, 0);
+        return Err(Row::EdgeList.at(0));
     }
     cell_rows(cells, edges, counts, near, sides)
 }
 
 // All rows, with tables of their own: few for few cells.
-fn judge(cells: &[u16], edges: &[u16], counts: &[u16], wrong: bool) -> Checked
+fn judge(cells: &[u16], edges: &[u16], counts: &[u16], wrong: bool) -> Result<u32, Refusal>
     requires { wrong ≡ false → length edges.now ≡ 2 * length counts.now }
     ensures { check_numbers result ≡ answer_with wrong (built cells.now edges.now counts.now) }
 {
@@ -448,72 +451,81 @@ fn judge(cells: &[u16], edges: &[u16], counts: &[u16], wrong: bool) -> Checked
 }
 
 // The grid check, in time linear in the cells and the listed edges. Keeps 233 KB on the stack, with what its functions keep.
-pub fn check(cells: &[u16], edges: &[u16], counts: &[u16], starts: &[u32]) -> Checked
-    ensures { check_numbers result ≡ grid_answer (grid_of cells.now edges.now counts.now starts.now) }
+pub fn check(grid: Grid) -> Result<u32, Refusal>
+    ensures { check_numbers result ≡ grid_answer (lent grid.entry) }
 {
-    let wrong = edges::row_2(edges, counts, starts);
-    judge(cells, edges, counts, wrong)
+    let wrong = edges::row_2(grid.edges, grid.counts, grid.starts);
+    judge(grid.cells, grid.edges, grid.counts, wrong)
 }
 
 // The grid check, and where it accepts, the tables of the grid: the name of face 4 c + s of the cells, and the place in the list of edge k of cell c
 // at 6 c + k. Keeps as much on the stack as `check`.
 pub fn lay(
-    cells: &[u16],
-    edges: &[u16],
-    counts: &[u16],
-    starts: &[u32],
+    grid: Grid,
     names: &mut [u16; MOST_SLOTS],
     sides: &mut [u16; MOST_EDGES],
-) -> Checked
-    ensures result_value { check_numbers result ≡ grid_answer (grid_of cells.now edges.now counts.now starts.now) }
-    ensures laid { Laid (grid_of cells.now edges.now counts.now starts.now) names.old sides.old names.new sides.new }
+) -> Result<u32, Refusal>
+    ensures result_value { check_numbers result ≡ grid_answer (lent grid.entry) }
+    ensures laid { Laid (lent grid.entry) names.old sides.old names.new sides.new }
 {
-    let n = cells.len() / 4;
-    let wrong = edges::row_2(edges, counts, starts);
+    let n = grid.cells.len() / 4;
+    let wrong = edges::row_2(grid.edges, grid.counts, grid.starts);
     let mut across = [0u16; MOST_SLOTS];
     let mut listed = [0u16; MOST_EDGES];
-    let r = all_rows(cells, edges, counts, wrong, &mut across, &mut listed);
-    if let Checked::Refused(_, _) = r {
-        return r;
-    }
+    let crossings = all_rows(
+        grid.cells,
+        grid.edges,
+        grid.counts,
+        wrong,
+        &mut across,
+        &mut listed,
+    )?;
     tables::write_names(4 * n, &across, names);
     tables::write_sides(6 * n, &listed, sides);
-    r
+    Ok(crossings)
 }
 
 // The opening call: the check of a grid whose starts are not known, and where it accepts, the starts. Keeps as much on the stack as `check`.
-pub fn open(cells: &[u16], edges: &[u16], counts: &[u16], starts: &mut [u32]) -> Checked
+pub fn open(
+    cells: &[u16],
+    edges: &[u16],
+    counts: &[u16],
+    starts: &mut [u32],
+) -> Result<u32, Refusal>
     ensures result_value { check_numbers result ≡ open_answer (grid_of cells.now edges.now counts.now starts.old) }
     ensures starts_after { starts.new ≡ open_starts (grid_of cells.now edges.now counts.now starts.old) }
 {
     let wrong = edges::bad_numbers(edges, counts, starts);
-    let r = judge(cells, edges, counts, wrong);
-    if let Checked::Refused(_, _) = r {
-        return r;
-    }
+    let crossings = judge(cells, edges, counts, wrong)?;
     tables::write_starts(counts, 0, 0, starts);
-    r
+    Ok(crossings)
 }
 
 // The count of an edge of an accepted grid with n crossings, set; rows 21, 18 and 10.
-fn change(counts: &mut [u16], starts: &mut [u32], n: u32, edge: usize, count: u16) -> Checked
+fn change(
+    counts: &mut [u16],
+    starts: &mut [u32],
+    n: u32,
+    edge: usize,
+    count: u16,
+) -> Result<u32, Refusal>
     requires { Changeable counts.old starts.old n }
     ensures { Changed counts.old starts.old edge count counts.new starts.new (check_numbers result) }
 {
     if counts.len() <= edge {
-        return Checked::Refused(21, edge);
+        return Err(Row::NoEdge.at(edge));
     }
     if MOST_COUNT < count {
-        return Checked::Refused(18, edge);
+        return Err(Row::Count.at(edge));
     }
     let m = n - size(counts[edge]) + size(count);
     if MOST_CROSSINGS < m {
-        return Checked::Refused(10, 0);
+        return Err(Row::Crossings.at(0));
     }
     let s = starts[edge];
     counts[edge] = count;
     tables::write_starts(counts, edge, s, starts);
-    Checked::Crossings(m)
+    Ok(m)
 }
 
 // The setting call: the grid check; then the count of an edge is set, and the starts of all later edges are brought up to date. Keeps as much on the
@@ -525,13 +537,16 @@ pub fn set_count(
     starts: &mut [u32],
     edge: usize,
     count: u16,
-) -> Checked
+) -> Result<u32, Refusal>
     ensures result_value { check_numbers result ≡ set_answer (grid_of cells.now edges.now counts.old starts.old) edge count }
     ensures counts_after { counts.new ≡ set_counts (grid_of cells.now edges.now counts.old starts.old) edge count }
     ensures starts_after { starts.new ≡ set_starts (grid_of cells.now edges.now counts.old starts.old) edge count }
 {
-    match check(cells, edges, counts, starts) {
-        Checked::Refused(row, place) => Checked::Refused(row, place),
-        Checked::Crossings(n) => change(counts, starts, n, edge, count),
-    }
+    let n = check(Grid {
+        cells,
+        edges,
+        counts,
+        starts,
+    })?;
+    change(counts, starts, n, edge, count)
 }

@@ -3,10 +3,10 @@ use Rattle.grid.proofs.Answers.{length_fine, with_1, with_2, with_3}
 use Rattle.grid.proofs.all_rows.Goals as goal
 
 pub returns-then-row_1 : goal.returns-then-row_1
-returns-then-row_1 c = record { result_value = with_1 _ _ (sym c.row_1.ensures ∙ c.if-row_1.true); where_accepted = tt }
+returns-then-row_1 c = record { result_value = rw c.at.ensures (with_1 _ _ (sym c.row_1.ensures ∙ c.if-row_1.true)); where_accepted = tt }
 
 pub returns-then-wrong : goal.returns-then-wrong
-returns-then-wrong c = record { result_value = with_2 _ _ (sym c.row_1.ensures ∙ c.if-row_1.false) c.if-wrong.true; where_accepted = tt }
+returns-then-wrong c = record { result_value = rw c.at-then-wrong.ensures (with_2 _ _ (sym c.row_1.ensures ∙ c.if-row_1.false) c.if-wrong.true); where_accepted = tt }
 
 pub cell_rows-requires : goal.cell_rows-requires
 cell_rows-requires c = let few = (length_fine _ (sym c.row_1.ensures ∙ c.if-row_1.false)).2 in

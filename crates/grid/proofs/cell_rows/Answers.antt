@@ -8,7 +8,7 @@ use Rattle.grid.proofs.cell_rows.Goals as goal
 
 pub returns-then-p3-n : goal.returns-then-p3-n
 unfolding since rows
-returns-then-p3-n c = record { result_value = answer_refuses _ 3 4 refl _ c.row_3-p3.ensures c.if-p3-n.true; where_accepted = tt }
+returns-then-p3-n c = record { result_value = rw c.at.ensures (answer_refuses _ 3 4 refl _ c.row_3-p3.ensures c.if-p3-n.true); where_accepted = tt }
 
 pub few_rows-requires : goal.few_rows-requires
 few_rows-requires c = let p = c.requires in record { cells_bound = c.if-n-le-FEW_CELLS.true; numbering = record { ordered = ordered_cells _ (λ i. omega (arith, c.type_inv.cells i)) p.few (rw c.row_3-p3.ensures at c.if-p3-n.false); pairs = p.pairs; blank = p.blank } }

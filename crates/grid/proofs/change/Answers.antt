@@ -5,14 +5,14 @@ use native.Mathlib.Omega.{arith}
 use lib.ListN.{set}
 use Rattle.answer.specs.Answer.{result_of}
 use Rattle.grid.specs.Grid.{crossings}
-use Rattle.grid.proofs.Settings.{Settable, change_10, change_18, change_21, change_made, change_starting, change_total, change_written, count_below}
+use Rattle.grid.proofs.Settings.{Settable, change_10, change_18, change_21, change_made, change_refused, change_starting, change_total, change_written, count_below}
 use Rattle.grid.proofs.change.Goals as goal
 
 pub returns-then-counts-edge : goal.returns-then-counts-edge
-returns-then-counts-edge c = record { answered = change_21 _ _ _ c.if-counts-edge.true; counts_are = refl; starts_are = refl }
+returns-then-counts-edge c = change_refused _ _ _ _ c.at.result (rw c.at.ensures (change_21 _ _ _ c.if-counts-edge.true))
 
 pub returns-then-count-gt-MOST_COUNT : goal.returns-then-count-gt-MOST_COUNT
-returns-then-count-gt-MOST_COUNT c = record { answered = change_18 _ _ _ c.if-counts-edge.false c.if-count-gt-MOST_COUNT.true; counts_are = refl; starts_are = refl }
+returns-then-count-gt-MOST_COUNT c = change_refused _ _ _ _ c.at-then-count-gt-MOST_COUNT.result (rw c.at-then-count-gt-MOST_COUNT.ensures (change_18 _ _ _ c.if-counts-edge.false c.if-count-gt-MOST_COUNT.true))
 
 pub overflow_sub-m : goal.overflow_sub-m
 overflow_sub-m c = let a = c.args in
@@ -21,11 +21,8 @@ overflow_sub-m c = let a = c.args in
 pub returns-then-m-gt-MOST_CROSSINGS : goal.returns-then-m-gt-MOST_CROSSINGS
 returns-then-m-gt-MOST_CROSSINGS c = let a = c.args in
     let l = c.if-counts-edge.false in
-    record {
-      answered = change_10 _ _ _ l c.if-count-gt-MOST_COUNT.false (omega (arith, change_total a.counts.now a.edge a.count a.n l c.requires.all, c.size.ensures.value, c.size-2.ensures.value));
-      counts_are = refl;
-      starts_are = refl;
-    }
+    change_refused _ _ _ _ c.at-then-m-gt-MOST_CROSSINGS.result
+    (rw c.at-then-m-gt-MOST_CROSSINGS.ensures (change_10 _ _ _ l c.if-count-gt-MOST_COUNT.false (omega (arith, change_total a.counts.now a.edge a.count a.n l c.requires.all, c.size.ensures.value, c.size-2.ensures.value))))
 
 pub write_starts-requires : goal.write_starts-requires
 write_starts-requires c = let a = c.args in

@@ -15,7 +15,7 @@ shape_of-marks-then-p9-counts c = c.row_9-p9.auto.marks
 
 pub returns-then-p9-counts : goal.returns-then-p9-counts
 unfolding since rows
-returns-then-p9-counts c = answer_refuses _ 9 10 refl _ c.row_9-p9.ensures c.if-p9-counts.true
+returns-then-p9-counts c = rw c.at.ensures (answer_refuses _ 9 10 refl _ c.row_9-p9.ensures c.if-p9-counts.true)
 
 pub shape_of-marks-then-s-gt-MOST_CROSSINGS : goal.shape_of-marks-then-s-gt-MOST_CROSSINGS
 shape_of-marks-then-s-gt-MOST_CROSSINGS c = c.row_9-p9.auto.marks
@@ -23,8 +23,8 @@ shape_of-marks-then-s-gt-MOST_CROSSINGS c = c.row_9-p9.auto.marks
 pub returns-then-s-gt-MOST_CROSSINGS : goal.returns-then-s-gt-MOST_CROSSINGS
 unfolding since rows
 returns-then-s-gt-MOST_CROSSINGS c = let t = over_capped c.args.counts.now (rw (← c.total-s.ensures) c.if-s-gt-MOST_CROSSINGS.true) in
-    answer_refuses _ 10 11 refl 0 (whole_fault _ t) (omega arith)
-    ∙ answer_passes _ 9 10 refl _ c.row_9-p9.ensures c.if-p9-counts.false
+    rw c.at-then-s-gt-MOST_CROSSINGS.ensures (answer_refuses _ 10 11 refl 0 (whole_fault _ t) (omega arith)
+    ∙ answer_passes _ 9 10 refl _ c.row_9-p9.ensures c.if-p9-counts.false)
 
 pub shape_of-marks : goal.shape_of-marks
 shape_of-marks c = c.row_9-p9.auto.marks

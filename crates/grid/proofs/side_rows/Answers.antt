@@ -25,7 +25,7 @@ shape_of-sides-then-p7-cells c = c.place_sides.auto.sides
 
 pub returns-then-p7-cells : goal.returns-then-p7-cells
 unfolding since rows
-returns-then-p7-cells c = record { result_value = answer_refuses _ 7 8 refl _ (c.row_7-p7.ensures.value ∙ sym (siding_blank c.requires c.place_sides.ensures)) c.if-p7-cells.true; where_accepted = tt }
+returns-then-p7-cells c = record { result_value = rw c.at.ensures (answer_refuses _ 7 8 refl _ (c.row_7-p7.ensures.value ∙ sym (siding_blank c.requires c.place_sides.ensures)) c.if-p7-cells.true); where_accepted = tt }
 
 pub used_rows-requires : goal.used_rows-requires
 used_rows-requires c = siding_using c.requires c.place_sides.ensures c.place_sides.auto.sides (rw c.row_7-p7.ensures.value at c.if-p7-cells.false) (c.row_7-p7.ensures.tallied c.if-p7-cells.false)

@@ -56,7 +56,7 @@ shape_of-same-then-p-n c = c.early_rows-p.auto.same ∙ c.number_faces-many.auto
 
 pub returns-then-p-n : goal.returns-then-p-n
 unfolding since rows
-returns-then-p-n c = record { result_value = answer_refuses _ 4 5 refl _ (c.early_rows-p.ensures.row4 c.if-p-n.true) c.if-p-n.true; where_accepted = tt }
+returns-then-p-n c = record { result_value = rw c.at.ensures (answer_refuses _ 4 5 refl _ (c.early_rows-p.ensures.row4 c.if-p-n.true) c.if-p-n.true); where_accepted = tt }
 
 pub overflow_mul-n : goal.overflow_mul-n
 overflow_mul-n c = omega (arith, c.requires.numbering.ordered.few)
@@ -102,7 +102,7 @@ unfolding since rows
 returns-then-p-n-2 c = let cells = c.args.cells.now in
     let w = c.early_rows-p.ensures.row5 c.if-p-n.false in
     let e : c.early_rows-p.result - cell_count cells ≡ first (crowded cells) (cell_count cells) = omega (arith, w.1) in
-    record { result_value = answer_refuses _ 5 6 refl _ e (omega (arith, c.if-p-n-2.true, c.if-p-n.false)) ∙ answer_passes _ 4 5 refl _ w.0 (le_refl _); where_accepted = tt }
+    record { result_value = rw c.at-then-p-n-2.ensures (answer_refuses _ 5 6 refl _ e (omega (arith, c.if-p-n-2.true, c.if-p-n.false)) ∙ answer_passes _ 4 5 refl _ w.0 (le_refl _)); where_accepted = tt }
 
 pub edge_rows-requires : goal.edge_rows-requires
 edge_rows-requires c = let p = c.requires in

@@ -10,7 +10,7 @@ row_8-p8-requires c = using_usable c.requires
 
 pub returns-then-p8-counts : goal.returns-then-p8-counts
 unfolding since rows
-returns-then-p8-counts c = record { result_value = answer_refuses _ 8 9 refl _ c.row_8-p8.ensures.value c.if-p8-counts.true; where_accepted = tt }
+returns-then-p8-counts c = record { result_value = rw c.at.ensures (answer_refuses _ 8 9 refl _ c.row_8-p8.ensures.value c.if-p8-counts.true); where_accepted = tt }
 
 pub last_rows-requires : goal.last_rows-requires
 last_rows-requires c = using_linkable c.requires c.row_8-p8.ensures.value c.row_8-p8.ensures.upper_bound c.if-p8-counts.false

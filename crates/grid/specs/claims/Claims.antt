@@ -1,14 +1,14 @@
 -- What is proved of the grid check, besides the contracts.
-use Rattle.std.specs.Prelude.{ℕ, ◌<◌, List, [], ◌∷◌, ◌≡◌, ◌⊎◌, ◌≢◌, length, get_or}
+use Rattle.std.specs.Prelude.{Result, ℕ, ◌<◌, List, [], ◌∷◌, ◌≡◌, ◌⊎◌, ◌≢◌, length, get_or}
 use Rattle.grid.specs.Grid.{Grid, grid_of, count_of, start, crossing, crossings, built}
 use Rattle.grid.specs.Opening.{open_starts, open_answer}
 use Rattle.answer.specs.Answer.{result_of, refusal}
 use Rattle.answer.specs.claims.Faults.{AllClear, Refusal}
+use Rattle.answer.specs.declared.Refusal.{Refusal as Reason}
 use Rattle.grid.specs.Rows.{rows, grid_answer}
 use Rattle.grid.specs.Setting.{set_answer}
 use Rattle.grid.specs.claims.Setting.{Setting, set_all}
 use Rattle.grid.specs.Check.{check_numbers}
-use Rattle.grid.specs.declared.Checked.{Checked}
 use Rattle.grid.specs.claims.Accepted.{Accepted, Sound, EdgeNumbers}
 
 -- the grid of three lists after the opening call, which is lent these starts
@@ -33,15 +33,15 @@ FaultRefused = (G : Grid) (n p : ℕ) → n ≢ 0 → grid_answer G ≡ refusal 
 abbrev pub AcceptsOrRefuses : Type 0
 AcceptsOrRefuses = (G : Grid) → (grid_answer G ≡ result_of (crossings G.counts ∷ [])) ⊎ ((n : ℕ) × (p : ℕ) × Refusal (rows G) n p)
 
--- the numbers tell the answer: no two values of the enum are read as the same answer
+-- the numbers tell the answer: no two answers are read alike
 abbrev pub AnswerTold : Type 0
-AnswerTold = (G : Grid) (r s : Checked) → check_numbers r ≡ grid_answer G → check_numbers s ≡ grid_answer G → r ≡ s
+AnswerTold = (G : Grid) (r s : Result ℕ Reason) → check_numbers r ≡ grid_answer G → check_numbers s ≡ grid_answer G → r ≡ s
 
 abbrev pub OpenTold : Type 0
-OpenTold = (G : Grid) (r s : Checked) → check_numbers r ≡ open_answer G → check_numbers s ≡ open_answer G → r ≡ s
+OpenTold = (G : Grid) (r s : Result ℕ Reason) → check_numbers r ≡ open_answer G → check_numbers s ≡ open_answer G → r ≡ s
 
 abbrev pub SetTold : Type 0
-SetTold = (G : Grid) (edge count : ℕ) (r s : Checked) → check_numbers r ≡ set_answer G edge count → check_numbers s ≡ set_answer G edge count → r ≡ s
+SetTold = (G : Grid) (edge count : ℕ) (r s : Result ℕ Reason) → check_numbers r ≡ set_answer G edge count → check_numbers s ≡ set_answer G edge count → r ≡ s
 
 -- a grid is accepted exactly where it is as 01 asks, said without the tests of the rows
 abbrev pub AcceptanceYields : Type 1

@@ -1,5 +1,5 @@
 -- What the check's own functions ask of each other: the meaning of their local tables.
-use Rattle.std.specs.Prelude.{ℕ, ◌+◌, ◌*◌, ◌-◌, ◌/◌, ◌%◌, ◌≤◌, ◌<◌, ◌≡◌, ◌⊎◌, ◌≢◌, Bool, true, false, not, ◌&&◌, List, [], ◌∷◌, length, get_or, set, eqb, ltb}
+use Rattle.std.specs.Prelude.{Result, Ok, Err, ℕ, ◌+◌, ◌*◌, ◌-◌, ◌/◌, ◌%◌, ◌≤◌, ◌<◌, ◌≡◌, ◌⊎◌, ◌≢◌, Bool, true, false, not, ◌&&◌, List, [], ◌∷◌, length, get_or, set, eqb, ltb}
 use Rattle.answer.specs.Answer.{result_of, is_result}
 use Rattle.answer.specs.Rows.{whole, answer_of}
 use Rattle.answer.specs.work.Faults.{since}
@@ -8,8 +8,7 @@ use Rattle.counting.specs.Search.{first, last, some, count}
 use Rattle.slots.specs.claims.Slots.{rank_in, third_position}
 use Rattle.slots.specs.Slots.{contains}
 use Rattle.counting.specs.work.Tables.{Table, same_key}
-use Rattle.grid.specs.declared.Checked.{Checked}
-use Rattle.grid.specs.declared.Checked.TheVariants.{Crossings, Refused}
+use Rattle.answer.specs.declared.Refusal.{Refusal}
 use Rattle.grid.specs.Grid.{Grid, cell_count, node, same_face, is_edge, low, high, start, crossings, starts_of}
 use Rattle.slots.specs.Limits.{highest_node, most_cells, most_crossings, most_slots}
 use Rattle.slots.specs.work.Limits.{most_edges}
@@ -232,9 +231,9 @@ pub record Worked (G : Grid) (near sides : List ℕ) : Type 0 where
   pub near_is : Neighbours G.cells near
   pub sided : Table (listed_at G) (6 * cell_count G.cells) sides
 
-abbrev pub WhereAccepted : Checked → Type 0 → Type 0
-WhereAccepted (Crossings n) T = T
-WhereAccepted (Refused row place) T = Unit {0}
+abbrev pub WhereAccepted : Result ℕ Refusal → Type 0 → Type 0
+WhereAccepted (Ok n) T = T
+WhereAccepted (Err refusal) T = Unit {0}
 
 -- the answer of the rows from number n on
 unfoldable pub answer_from : ℕ → Grid → List ℕ

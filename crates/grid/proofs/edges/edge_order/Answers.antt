@@ -1,16 +1,14 @@
 use mathlib.Core.Path.{◌∙◌, sym}
 use native.Mathlib.Omega.{arith}
-use Rattle.counting.proofs.Search.{seeking_all, seeking_hit, seeking_more, seeking_none}
+use borrow.Author.Count.{below_more}
+use Rattle.counting.proofs.Search.{found_end, found_hit}
 use Rattle.grid.proofs.edges.edge_order.Goals as goal
 
-pub loop-e-init : goal.loop-e-init
-loop-e-init c = seeking_none _ _
-
 pub returns-then-bad_edge : goal.returns-then-bad_edge
-returns-then-bad_edge c = seeking_hit _ c.loop-e.invariant (omega arith) (sym c.bad_edge.ensures ∙ c.if-bad_edge.true)
+returns-then-bad_edge c = found_hit _ _ _ (omega arith) (sym c.bad_edge.ensures ∙ c.if-bad_edge.true) c.loop-e.invariant
 
 pub loop-e-preserved : goal.loop-e-preserved
-loop-e-preserved c = seeking_more _ c.loop-e.invariant (omega arith) (sym c.bad_edge.ensures ∙ c.if-bad_edge.false)
+loop-e-preserved c = below_more _ _ c.loop-e.invariant (sym c.bad_edge.ensures ∙ c.if-bad_edge.false)
 
 pub returns : goal.returns
-returns c = seeking_all _ c.loop-e.invariant (omega arith)
+returns c = found_end _ _ (λ i h. c.loop-e.invariant i (omega arith))
