@@ -1,4 +1,3 @@
 pub mod Answer
 pub mod Numbers
 pub mod Rows
-pub mod Told

@@ -2,9 +2,12 @@
 use Rattle.std.specs.Prelude.{Result, Ok, Err}
 use Prim.Native.Nat.{ℕ, ◌-◌}
 use mathlib.Core.Path.{◌≡◌, refl, sym, ap, ◌∙◌}
+use mathlib.Core.Bool.{false}
 use mathlib.Core.List.{List, [], ◌∷◌}
 use native.Mathlib.Omega.{arith}
 use lib.ListN.{get_or}
+use borrow.Author.Tests.{ne_eqb}
+use Rattle.answer.specs.Answer.{is_result}
 use Rattle.answer.specs.Refusal.{row_number, refusal_numbers, answer_numbers}
 use Rattle.answer.specs.declared.Refusal.{Refusal}
 use Rattle.answer.specs.declared.Row.{Row}
@@ -52,6 +55,10 @@ row_not r e =
     let q : r ≡ CellList = sym (row_back r) ∙ ap (λ n. get_or rows (n - 1) CellList) e in
     let z : row_number r ≡ 1 = ap row_number q in
     omega arith
+
+-- a refusal is no result
+pub refusal_not : (r : Refusal) → is_result (refusal_numbers r) ≡ false
+refusal_not r = ne_eqb (row_number r.row) 0 (row_not r.row)
 
 pub refusal_tells : (r s : Refusal) → refusal_numbers r ≡ refusal_numbers s → r ≡ s
 refusal_tells r s e =

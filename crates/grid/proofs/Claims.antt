@@ -12,6 +12,7 @@ use Rattle.counting.proofs.Pack.{col_lt, col_pack, pack_lt, pre_le, row_lt, row_
 use Rattle.answer.specs.Answer.{is_result, result_of}
 use Rattle.answer.specs.claims.Faults.{AllClear}
 use Rattle.answer.specs.work.Faults.{numbered}
+use Rattle.answer.proofs.Numbers.{answer_tells}
 use Rattle.answer.proofs.Rows.{answer_some, clear_answer, clear_or_refusal, refusal_answer, refused_by, result_clear, result_is}
 use Rattle.grid.specs.Check.{check_numbers}
 use Rattle.grid.specs.claims.Claims.{AcceptsClear, AcceptsOrRefuses, AnswerTold, ClearAccepted, CrossingNumbers, FaultRefused, OpenTold, RefusesFault}
@@ -55,7 +56,7 @@ accepted_is G h = result_is (rows G) (crossings G.counts ∷ []) (rows_numbered 
 
 -- an answer is read from one value alone
 pub told : (answer : List ℕ) → (r s : Result ℕ Refusal) → check_numbers r ≡ answer → check_numbers s ≡ answer → r ≡ s
-told answer r s a b = Rattle.answer.proofs.Told.answer_told (λ n. n ∷ []) (λ n m e. cc) r s (a ∙ sym b)
+told answer r s a b = answer_tells (λ n. n ∷ []) (λ n m e. cc) r s (a ∙ sym b)
 
 pub answer_told : AnswerTold
 answer_told G = told (grid_answer G)

@@ -16,7 +16,7 @@ use Rattle.counting.proofs.Bools.{not_clash}
 use Rattle.counting.proofs.Search.{first_at}
 use Rattle.counting.proofs.Stored.{filled_ext}
 use Rattle.answer.specs.Answer.{result_of}
-use Rattle.answer.proofs.Told.{refusal_not}
+use Rattle.answer.proofs.Numbers.{refusal_not}
 use Rattle.grid.specs.claims.Accepted.{EdgeNumbers, Sound}
 use Rattle.grid.specs.Check.{check_numbers}
 use Rattle.grid.specs.Grid.{Grid, built, cell_count, edge_number, face_name, is_edge, same_face}

@@ -13,7 +13,7 @@ use borrow.Author.Tests.{le-leb, le-ltb, leb-false, lt-leb, lt-ltb, ltb-false}
 use Rattle.answer.specs.Answer.{is_result, refusal, result_of}
 use Rattle.answer.specs.Refusal.{refusal_numbers}
 use Rattle.answer.proofs.Answer.{no_nil, pick_some}
-use Rattle.answer.proofs.Told.{refusal_not}
+use Rattle.answer.proofs.Numbers.{refusal_not}
 use Rattle.counting.specs.Pick.{pick}
 use Rattle.counting.specs.Stored.{filled}
 use Rattle.counting.proofs.Bools.{clash}
