@@ -16,3 +16,4 @@ pub mod Stores
 pub mod Stored
 pub mod Tables
 pub mod Examples
+pub mod Positions

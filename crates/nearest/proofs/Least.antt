@@ -1,4 +1,4 @@
--- The lowest of the numbers with the least float: how searches for smaller ones lead to it, and what it has.
+-- The lowest of the numbers with the least float: how a search leads to it, and what it has.
 use Prim.Native.Nat.{ℕ, zero, suc, ◌+◌, ◌-◌, ◌≤◌, ◌<◌}
 use mathlib.Core.Path.{◌≡◌, refl, sym, ap, ◌∙◌, subst}
 use mathlib.Core.Logic.{⊎_elim}
@@ -9,13 +9,11 @@ use native.Mathlib.Nat.{not-suc-le-zero}
 use native.Mathlib.Omega.{arith}
 use lib.Ieee.{Float, lt, le, eq}
 use Rattle.counting.specs.Pick.{pick}
-use Rattle.counting.specs.Lists.{seek}
 use Rattle.counting.proofs.Below.{trichotomy}
-use Rattle.counting.proofs.Search.{sought, below-or}
+use Rattle.counting.proofs.Search.{below-or}
 use Rattle.place.specs.declared.Place.{Place}
 use Rattle.place.specs.Place.{place_at}
 use Rattle.nearest.specs.Distance.{squared_distance, least_to, distance_of}
-use Rattle.nearest.specs.work.Distance.{nearer_than}
 use Rattle.nearest.proofs.Order.{Counted, not_greater, not_equal, at_most, not_self, smaller}
 
 -- b is the lowest of the first i numbers with the least of their floats, which is x
@@ -25,7 +23,7 @@ pub record LeastSoFar (d : ℕ → Float) (i b : ℕ) (x : Float) : Type 0 where
   pub float : x ≡ d b
 
 module _ (d : ℕ → Float) where
-  reached_one : {x : Float} → x ≡ d 0 → LeastSoFar d 1 0 x
+  pub reached_one : {x : Float} → x ≡ d 0 → LeastSoFar d 1 0 x
   unfolding least_to
   reached_one e = record { some = omega arith; number = refl; float = e }
 
@@ -38,56 +36,21 @@ module _ (d : ℕ → Float) where
       let b : suc i - 1 ≡ i = omega arith in
       rw (a, b)
 
-  -- whose float is smaller, or not
-  next_less : {i b : ℕ} {x y : Float} → LeastSoFar d i b x → y ≡ d i → lt (d i) x ≡ true → LeastSoFar d (i + 1) i y
-  next_less {i} R e h = record { some = omega arith; number = sym (next i R.some ∙ rw (← R.number, ← R.float, h)); float = e }
+  -- whose float y is smaller, or not
+  pub next_less : {i b : ℕ} {x y : Float} → LeastSoFar d i b x → y ≡ d i → lt y x ≡ true → LeastSoFar d (i + 1) i y
+  next_less {i} R e h = record { some = omega arith; number = sym (next i R.some ∙ rw (← R.number, ← R.float, ← e, h)); float = e }
 
-  next_not : {i b : ℕ} {x : Float} → LeastSoFar d i b x → lt (d i) x ≡ false → LeastSoFar d (i + 1) b x
-  next_not {i} R h = record { some = omega arith; number = sym (next i R.some ∙ rw (← R.number, ← R.float, h)); float = R.float }
+  pub next_not : {i b : ℕ} {x y : Float} → LeastSoFar d i b x → y ≡ d i → lt y x ≡ false → LeastSoFar d (i + 1) b x
+  next_not {i} R e h = record { some = omega arith; number = sym (next i R.some ∙ rw (← R.number, ← R.float, ← e, h)); float = R.float }
 
-  -- numbers none of which has a smaller one
-  run_not : (j : ℕ) {i b : ℕ} {x : Float} → LeastSoFar d i b x → ((k : ℕ) → i ≤ k → k < i + j → lt (d k) x ≡ false) → LeastSoFar d (i + j) b x
-  run_not zero {i} {b} {x} R h = let e : i ≡ i + 0 = omega arith in subst (λ k. LeastSoFar d k b x) e R
-  run_not (suc j) {i} {b} {x} R h =
-      let e : i + 1 + j ≡ i + suc j = omega arith in
-      subst (λ k. LeastSoFar d k b x) e (run_not j (next_not R (h i (omega arith) (omega arith))) (λ k l m. h k (omega arith) (omega arith)))
-
-  -- of n numbers the first k are gone through, and the next one, if there is one, has a smaller float
-  pub record Searched (n k b : ℕ) (x : Float) : Type 0 where
-    pub reached : LeastSoFar d k b x
-    pub inside : k - 1 ≤ n - 1
-    pub nearer : k < n → lt (d k) x ≡ true
-
-  -- as far as a search for a smaller one leads
-  run_to : (n i : ℕ) {k b : ℕ} {x : Float} → LeastSoFar d i b x → i - 1 ≤ n - 1 → k ≡ seek (λ q. lt (d q) x) (n - i) i → Searched n k b x
-  run_to n i {k} {b} {x} R h e =
-      let S = sought (λ q. lt (d q) x) (n - i) i in
-      let r = seek (λ q. lt (d q) x) (n - i) i in
-      let l : i + (r - i) ≡ r = omega (arith, S.low) in
-      subst (λ q. Searched n q b x) (sym e)
-      (record {
-        reached = subst (λ q. LeastSoFar d q b x) l (run_not (r - i) R (λ q a c. S.none q a (omega (arith, S.low))));
-        inside = omega (arith, S.high, R.some);
-        nearer = λ m. S.is (omega (arith, S.low));
-      })
-
-  pub run_one : {n k : ℕ} {x : Float} → x ≡ d 0 → k ≡ seek (λ q. lt (d q) x) (n - 1) 1 → Searched n k 0 x
-  run_one {n} e s = run_to n 1 (reached_one e) (omega arith) s
-
-  pub run_more : {n k j b : ℕ} {x y : Float} → Searched n k b x → k < n → y ≡ d k → j ≡ seek (λ q. lt (d q) y) (n - (k + 1)) (k + 1) → Searched n j k y
-  run_more {n} {k} R h e s = run_to n (k + 1) (next_less R.reached e (R.nearer h)) (omega arith) s
-
-  pub run-end : {n k b : ℕ} {x : Float} → Searched n k b x → n ≤ k → b ≡ least_to d (n - 1)
-  run-end {n} {k} R h = let e : k - 1 ≡ n - 1 = omega (arith, R.inside) in R.reached.number ∙ ap (least_to d) e
+  -- after the last number
+  pub reached_all : {n k b : ℕ} {x : Float} → LeastSoFar d k b x → n ≤ k → k - 1 ≤ n - 1 → b ≡ least_to d (n - 1)
+  reached_all {n} {k} R h l = let e : k - 1 ≡ n - 1 = omega arith in R.number ∙ ap (least_to d) e
 
 -- what a point that is loaded is measured to have
 pub distance_is : (points : List Float) (query : Place) (k : ℕ) {p : Place} {x : Float} → p ≡ place_at points k → x ≡ squared_distance p query → x ≡ distance_of points query k
 unfolding distance_of
 distance_is points query k e h = h ∙ ap (λ (p : Place). squared_distance p query) e
-
-pub nearer_is : (points : List Float) (query : Place) (k : ℕ) (least : Float) (b : Bool) {p : Place} {x : Float} → p ≡ place_at points k → x ≡ squared_distance p query → lt x least ≡ b
-    → nearer_than points query least k ≡ b
-nearer_is points query k least b e h q = ap (λ y. lt y least) (sym (distance_is points query k e h)) ∙ q
 
 -- what is found: each earlier number has a greater float, and no later one a smaller one
 pub record LeastAt (d : ℕ → Float) (n b : ℕ) : Type 0 where

@@ -1,31 +1,33 @@
 -- The answer of the nearest call (02).
-use Rattle.std.specs.Prelude.{ℕ, ◌-◌, ◌%◌, Bool, not, ◌&&◌, ◌||◌, List, [], ◌∷◌, ◌++◌, eqb, length, get_or, Float}
+use Rattle.std.specs.Prelude.{ℕ, ◌-◌, ◌%◌, Bool, not, ◌&&◌, ◌||◌, List, [], ◌∷◌, ◌++◌, eqb, length, get_or, Float, Option, Some, None, Result}
 use Rattle.std.specs.Float.{nan, binary64}
 use Rattle.std.specs.Float.Ieee.{fits, is_nan, to_bits}
-use Rattle.answer.specs.Answer.{result_of, refused}
+use Rattle.answer.specs.declared.Refusal.{Refusal}
+use Rattle.answer.specs.Answer.{result_of}
+use Rattle.answer.specs.Refusal.{answer_numbers}
 use Rattle.answer.specs.Rows.{Row, each, answer_of}
 use Rattle.counting.specs.Pick.{pick}
 use Rattle.place.specs.declared.Place.{Place}
 use Rattle.place.specs.Place.{within, coordinates, numbers}
 use Rattle.nearest.specs.declared.Nearest.{Nearest}
-use Rattle.nearest.specs.declared.Nearest.TheVariants.{NoPoint, At}
-use Rattle.nearest.specs.declared.Measured.{Measured}
-use Rattle.nearest.specs.declared.Measured.TheVariants.{Told, Refused}
 use Rattle.nearest.specs.Distance.{least_to, point_count, distance_of}
 
 -- a float of the format that is no NaN: its bits are its own
 abbrev pub has_bits : Float → Bool
 has_bits x = fits binary64 x && not (is_nan x)
 
--- The call's answer as numbers: no point is a result without values; a point has its number and the bits of its squared distance, by which no two
--- floats are alike. What has no bits of its own is given no reading.
-abbrev pub nearest_numbers : Nearest → List ℕ
-nearest_numbers NoPoint = result_of []
-nearest_numbers (At n d) = pick (has_bits d) (result_of (n ∷ to_bits binary64 d ∷ [])) []
+-- What the call answers: the nearest point, no point, or a refusal.
+abbrev pub Measured : Type 0
+Measured = Result (Option Nearest) Refusal
+
+-- The values of a result: none for no point; a point has its number and the bits of its squared distance, by which no two floats are alike. What has no
+-- bits of its own is given a reading with one value, which no answer of the call has.
+abbrev pub nearest_numbers : Option Nearest → List ℕ
+nearest_numbers None = []
+nearest_numbers (Some p) = p.point ∷ pick (has_bits p.distance) (to_bits binary64 p.distance ∷ []) []
 
 abbrev pub measured_numbers : Measured → List ℕ
-measured_numbers (Told n) = nearest_numbers n
-measured_numbers (Refused row place) = refused row place
+measured_numbers = answer_numbers nearest_numbers
 
 -- number i of a list is not within the limit
 abbrev pub beyond : List Float → ℕ → Bool

@@ -2,4 +2,3 @@ pub mod Distance
 pub mod Answer
 pub mod claims
 pub mod examples
-pub mod work

@@ -1,28 +1,19 @@
 // The nearest call: the point of a list that is nearest to a place.
 #![tactic(auto)]
 
-ghost use Rattle.std.specs.Prelude.{◌≡◌, ◌-◌, length};
-ghost use Rattle.counting.specs.Lists.{seek};
-ghost use Rattle.counting.specs.Search.{first};
-ghost use Rattle.place.specs.Place.{coordinates, numbers};
-ghost use Rattle.nearest.specs.Distance.{squared_distance, point_count};
-ghost use Rattle.nearest.specs.work.Distance.{nearer_than};
-ghost use Rattle.nearest.specs.Answer.{measured_numbers, beyond, nearest_number, nearest_answer};
+ghost use Rattle.std.specs.Prelude.{◌≡◌, position, not};
+ghost use Rattle.place.specs.Place.{within};
+ghost use Rattle.nearest.specs.Distance.{squared_distance};
+ghost use Rattle.nearest.specs.Answer.{measured_numbers, nearest_number, nearest_answer};
 
+use answer::{Refusal, Row};
 use place::Place;
 
-// No point, or the number of the nearest one and its squared distance.
-#[derive(Clone, Copy)]
-pub enum Nearest {
-    NoPoint,
-    At(usize, f64),
-}
-
-// That, or the number and the place of a refusal.
-#[derive(Clone, Copy)]
-pub enum Measured {
-    Told(Nearest),
-    Refused(u8, usize),
+// The nearest point: its number, and its squared distance.
+#[derive(Clone, Copy, Debug, PartialEq)]
+pub struct Nearest {
+    pub point: usize,
+    pub distance: f64,
 }
 
 // The squared distance of p from q.
@@ -35,51 +26,11 @@ fn squared_distance(p: Place, q: Place) -> f64
     (dx * dx + dy * dy) + dz * dz
 }
 
-// The lowest index of a number of the list that is not within the limit; the list's length where there is none.
-fn bad_in_list(points: &[f64]) -> usize
-    ensures { result ≡ first (beyond points.now) (length points.now) }
+// The lowest index of a number that is not within the limit.
+fn first_beyond(numbers: &[f64]) -> Option<usize>
+    ensures { result ≡ position (λ x. not (within x)) numbers.now }
 {
-    let n = points.len();
-    let mut i = 0;
-    while i < n {
-        if !place::is_within(points[i]) {
-            return i;
-        }
-        i += 1;
-    }
-    n
-}
-
-// The same of the query's three numbers; 3 where there is none.
-fn bad_in_query(query: Place) -> usize
-    ensures { result ≡ first (beyond (numbers query)) coordinates }
-{
-    if !place::is_within(query.x) {
-        return 0;
-    }
-    if !place::is_within(query.y) {
-        return 1;
-    }
-    if !place::is_within(query.z) {
-        return 2;
-    }
-    3
-}
-
-// The lowest number from i on of a point whose squared distance is below `least`; where there is none, that of the points, or i if it is greater.
-fn nearer_from(points: &[f64], query: Place, least: f64, i: usize) -> usize
-    ensures { result ≡ seek (nearer_than points.now query least) (point_count points.now - i) i }
-{
-    let n = points.len() / 3;
-    let mut k = i;
-    while k < n {
-        let d = squared_distance(place::load(points, k), query);
-        if d < least {
-            return k;
-        }
-        k += 1;
-    }
-    k
+    numbers.iter().position(|x| !place::is_within(*x))
 }
 
 // The number of the nearest point of a list; 0 for a list without a point.
@@ -89,35 +40,34 @@ fn nearest_of(points: &[f64], query: Place) -> usize
     let n = points.len() / 3;
     let mut best = 0;
     let mut least = squared_distance(place::load(points, 0), query);
-    let mut k = nearer_from(points, query, least, 1);
-    while k < n {
-        best = k;
-        least = squared_distance(place::load(points, k), query);
-        k = nearer_from(points, query, least, k + 1);
+    for k in 1..n {
+        let d = squared_distance(place::load(points, k), query);
+        if d < least {
+            best = k;
+            least = d;
+        }
     }
     best
 }
 
-// The nearest call. The query's numbers have the places after the list's.
-pub fn nearest_point(points: &[f64], query: Place) -> Measured
+// The nearest call: no point for an empty list. The query's numbers have the places after the list's.
+pub fn nearest_point(points: &[f64], query: Place) -> Result<Option<Nearest>, Refusal>
     ensures { measured_numbers result ≡ nearest_answer points.now query }
 {
     let n = points.len();
     if n % 3 != 0 {
-        return Measured::Refused(23, 0);
+        return Err(Row::Points.at(0));
     }
-    let i = bad_in_list(points);
-    if i < n {
-        return Measured::Refused(23, i);
+    if let Some(i) = first_beyond(points) {
+        return Err(Row::Points.at(i));
     }
-    let t = bad_in_query(query);
-    if t < 3 {
-        return Measured::Refused(23, n + t);
+    if let Some(t) = first_beyond(&[query.x, query.y, query.z]) {
+        return Err(Row::Points.at(n + t));
     }
     if n == 0 {
-        return Measured::Told(Nearest::NoPoint);
+        return Ok(None);
     }
-    let k = nearest_of(points, query);
-    let d = squared_distance(place::load(points, k), query);
-    Measured::Told(Nearest::At(k, d))
+    let point = nearest_of(points, query);
+    let distance = squared_distance(place::load(points, point), query);
+    Ok(Some(Nearest { point, distance }))
 }

@@ -1,42 +1,24 @@
-use Prim.Native.Nat.{◌+◌, ◌-◌}
-use native.Mathlib.Omega.{arith}
-use Rattle.counting.proofs.Search.{sought}
-use Rattle.nearest.specs.Distance.{point_count}
-use Rattle.nearest.specs.work.Distance.{nearer_than}
+use Rattle.std.proofs.Common.{arith}
 use Rattle.nearest.specs.Answer.{nearest_number}
-use Rattle.nearest.proofs.Least.{run_one, run_more, run-end, distance_is}
+use Rattle.nearest.proofs.Least.{reached_one, next_less, next_not, reached_all, distance_is}
 use Rattle.nearest.proofs.nearest_of.Goals as goal
-
-pub load-requires : goal.load-requires
-load-requires c = tt
-
-pub squared_distance-least-requires : goal.squared_distance-least-requires
-squared_distance-least-requires c = tt
-
-pub nearer_from-k-requires : goal.nearer_from-k-requires
-nearer_from-k-requires c = tt
+use Rattle.nearest.proofs.nearest_of.Goals.{then-d-least, else-d-least}
 
 pub loop-k-init : goal.loop-k-init
-loop-k-init c = run_one _ (distance_is _ _ _ c.load.ensures c.squared_distance-least.ensures) c.nearer_from-k.ensures
-
-pub load-requires-in-loop-k : goal.load-requires-in-loop-k
-load-requires-in-loop-k c = tt
-
-pub squared_distance-least-requires-in-loop-k : goal.squared_distance-least-requires-in-loop-k
-squared_distance-least-requires-in-loop-k c = tt
-
-pub nearer_from-k-requires-in-loop-k : goal.nearer_from-k-requires-in-loop-k
-nearer_from-k-requires-in-loop-k c = tt
-
-pub loop-k-smaller : goal.loop-k-smaller
-loop-k-smaller c = let a = c.args in
-    let k = c.loop-k.k in
-    let S = sought (nearer_than a.points.now a.query c.squared_distance-least-in-loop-k.result) (point_count a.points.now - (k + 1)) (k + 1) in
-    omega (arith, S.low, c.nearer_from-k-in-loop-k.ensures)
+loop-k-init c = record { reached = reached_one _ (distance_is _ _ _ c.load.ensures c.squared_distance-least.ensures); inside = omega arith }
 
 pub loop-k-preserved : goal.loop-k-preserved
-loop-k-preserved c = run_more _ c.loop-k.invariant (omega arith) (distance_is _ _ _ c.load-in-loop-k.ensures c.squared_distance-least-in-loop-k.ensures) c.nearer_from-k-in-loop-k.ensures
+loop-k-preserved c =
+    let e = distance_is _ _ _ c.load-in-loop-k.ensures c.squared_distance-d.ensures in
+    let R = c.loop-k.invariant.reached in
+    record {
+      reached = elim c.if-d-least.branch [
+        | then-d-least w ↦ rw (w.best-is, w.least-is) (next_less _ R e w.if-d-least.true)
+        | else-d-least w ↦ rw (w.best-is, w.least-is) (next_not _ R e w.if-d-least.false)
+      ];
+      inside = omega arith;
+    }
 
 pub returns : goal.returns
 unfolding nearest_number
-returns c = run-end _ c.loop-k.invariant (omega arith)
+returns c = reached_all _ c.loop-k.invariant.reached (omega arith) (omega arith)

@@ -1,23 +1,27 @@
-use borrow.Author.Rules.{rules}
+use Rattle.std.proofs.Common.{◌<◌, rules, ap, ◌∙◌}
+use Rattle.answer.specs.Refusal.{refusal_numbers}
+use Rattle.place.specs.Place.{coordinates}
 use Rattle.nearest.proofs.Least.{distance_is}
-use Rattle.nearest.proofs.Calls.{uneven_refused, listed_refused, asked_refused, faultless, none_answered, found_answered}
+use Rattle.nearest.proofs.Calls.{asked_lt, uneven_refused, listed_refused, asked_refused, faultless, none_answered, found_answered}
 use Rattle.nearest.proofs.nearest_point.Goals as goal
 
 pub returns-then-n-ne0 : goal.returns-then-n-ne0
-returns-then-n-ne0 c = let a = c.args in uneven_refused a.points.now a.query c.if-n-ne0.true
+returns-then-n-ne0 c = ap refusal_numbers c.at.ensures ∙ uneven_refused _ _ c.if-n-ne0.true
 
-pub returns-then-i-n : goal.returns-then-i-n
-returns-then-i-n c = let a = c.args in
-    listed_refused a.points.now a.query (search rules) c.bad_in_list-i.result c.bad_in_list-i.ensures c.if-i-n.true
+pub returns-in-Some : goal.returns-in-Some
+returns-in-Some c = ap refusal_numbers c.at-in-Some.ensures ∙ listed_refused _ _ (search rules) _ c.in-Some.ensures
 
-pub returns-then-t-lt3 : goal.returns-then-t-lt3
-returns-then-t-lt3 c = let a = c.args in
-    asked_refused a.points.now a.query (search rules) c.bad_in_list-i.result c.bad_in_list-i.ensures c.if-i-n.false c.bad_in_query-t.result c.bad_in_query-t.ensures c.if-t-lt3.true
+pub overflow_add-n : goal.overflow_add-n
+overflow_add-n c = let h : c.in-Some-first_beyond.t < coordinates = asked_lt c.args.points.now c.args.query _ c.in-Some-first_beyond.ensures in search rules
+
+pub returns-in-Some-first_beyond : goal.returns-in-Some-first_beyond
+returns-in-Some-first_beyond c =
+    ap refusal_numbers c.at-in-Some-first_beyond.ensures ∙ asked_refused _ _ (search rules) c.in_default.ensures _ c.in-Some-first_beyond.ensures
 
 pub returns-then-n-eq0 : goal.returns-then-n-eq0
-returns-then-n-eq0 c = let a = c.args in
-    none_answered a.points.now a.query (faultless a.points.now a.query (search rules) c.bad_in_list-i.result c.bad_in_list-i.ensures c.if-i-n.false c.bad_in_query-t.result c.bad_in_query-t.ensures c.if-t-lt3.false) c.if-n-eq0.true
+returns-then-n-eq0 c = none_answered _ _ (faultless _ _ (search rules) c.in_default.ensures c.in_default-first_beyond.ensures) c.if-n-eq0.true
 
 pub returns : goal.returns
-returns c = let a = c.args in
-    found_answered a.points.now a.query (faultless a.points.now a.query (search rules) c.bad_in_list-i.result c.bad_in_list-i.ensures c.if-i-n.false c.bad_in_query-t.result c.bad_in_query-t.ensures c.if-t-lt3.false) c.if-n-eq0.false c.nearest_of-k.result c.squared_distance-d.result c.nearest_of-k.ensures (distance_is _ _ _ c.load.ensures c.squared_distance-d.ensures)
+returns c =
+    found_answered _ _ (faultless _ _ (search rules) c.in_default.ensures c.in_default-first_beyond.ensures) c.if-n-eq0.false _ _ c.nearest_of-point.ensures
+    (distance_is _ _ _ c.load.ensures c.squared_distance-distance.ensures)

@@ -1,2 +1,0 @@
--- What only contracts of parts and proofs cite.
-pub mod Distance
