@@ -4,6 +4,7 @@ use mathlib.Core.Path.{◌≡◌, refl, sym, ap, ◌∙◌}
 use mathlib.Core.Logic.{⊎_elim}
 use mathlib.Core.Bool.{Bool, true, false}
 use mathlib.Core.List.{List, [], ◌∷◌}
+use Rattle.std.proofs.Common.{Option, Some, None}
 use native.Mathlib.Nat.{eq-or-lt_of_le}
 use native.Mathlib.Omega.{arith}
 use native.Mathlib.Decide.{dec_lt, ℕ_discrete}
@@ -16,7 +17,6 @@ use Rattle.answer.proofs.Answer.{no_nil}
 use Rattle.cell.specs.declared.LoopType.{LoopType}
 use Rattle.cell.specs.declared.LoopType.TheVariants.{Contractible, Corner, Diagonal, LowestCorner}
 use Rattle.cell.specs.declared.Loop.{Loop}
-use Rattle.cell.specs.declared.Loop.TheVariants.{Found, Nothing}
 use Rattle.cell.specs.Cell.{Edges, base, crossings, edge}
 use Rattle.cell.specs.Loop.{loop_size, dart, in_grid, leasts}
 use Rattle.cell.specs.Answer.{type_numbers, loop_numbers}
@@ -118,14 +118,19 @@ flags true false q = absurd (omega arith)
 flags false true q = absurd (omega arith)
 flags false false q = refl
 
-loops : (k l : Loop) → loop_numbers k ≡ loop_numbers l → k ≡ l
-loops (Found p n a s) (Found q m b t) e =
-    let f : a ≡ b = flags a b (cc) in
-    let g : s ≡ t = types s t (cc) in
-    cc
-loops (Found p n a s) Nothing e = absurd (no_nil {a = p} {l = n ∷ one a ∷ type_numbers s} (cc))
-loops Nothing (Found p n a s) e = absurd (no_nil {a = p} {l = n ∷ one a ∷ type_numbers s} (cc))
-loops Nothing Nothing e = refl
+made : (p0 len : ℕ) → Bool → LoopType → Loop
+made p0 len normal kind = record { p0 = p0; len = len; normal = normal; kind = kind }
+
+loops : (k l : Option Loop) → loop_numbers k ≡ loop_numbers l → k ≡ l
+unfolding made
+loops (Some k) (Some l) e =
+    let f : k.normal ≡ l.normal = flags k.normal l.normal (cc) in
+    let g : k.kind ≡ l.kind = types k.kind l.kind (cc) in
+    let h : made k.p0 k.len k.normal k.kind ≡ made l.p0 l.len l.normal l.kind = cc in
+    ap Some h
+loops (Some k) None e = absurd (no_nil {a = k.p0} {l = k.len ∷ one k.normal ∷ type_numbers k.kind} (cc))
+loops None (Some k) e = absurd (no_nil {a = k.p0} {l = k.len ∷ one k.normal ∷ type_numbers k.kind} (cc))
+loops None None e = refl
 
 pub one_to_one : OneToOne
 one_to_one = record { types = types; loops = loops }

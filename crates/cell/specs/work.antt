@@ -4,6 +4,7 @@ pub mod Route
 pub mod Half
 pub mod Dart
 pub mod Table
+pub mod Tables
 pub mod Scratch
 pub mod Walked
 pub mod Round

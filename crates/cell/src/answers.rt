@@ -1,5 +1,5 @@
 // What is answered of a loop, from what its walk recorded.
-ghost use Rattle.std.specs.Prelude.{◌≡◌, ◌%◌, ◌<◌, ◌≤◌, eqb, get_or, length};
+ghost use Rattle.std.specs.Prelude.{◌≡◌, ◌%◌, ◌<◌, ◌≤◌, eqb, get_or, length, Some};
 ghost use Rattle.counting.specs.Lists.{one};
 ghost use Rattle.cell.specs.Loop.{node_with, type_by};
 ghost use Rattle.cell.specs.work.Limits.{start_limit};
@@ -7,7 +7,7 @@ ghost use Rattle.cell.specs.claims.Half.{edge_of};
 ghost use Rattle.cell.specs.work.Round.{crosses_in, round_answer};
 ghost use Rattle.cell.specs.Answer.{type_numbers, loop_numbers};
 
-use super::{Cell, Loop, LoopType, tables};
+use super::{Cell, Loop, LoopType, half_edges};
 use counting::wide8;
 
 fn same(a: usize, b: usize) -> usize
@@ -23,9 +23,9 @@ pub(crate) fn edge_at(halves: &[u8], k: usize) -> usize
 {
     let h = wide8(halves[k]);
     if h < 12 {
-        return tables::edge_of(h);
+        return half_edges::edge_of(h);
     }
-    tables::edge_of(9 + h % 3)
+    half_edges::edge_of(9 + h % 3)
 }
 
 // The crossings of a recorded loop on edge e.
@@ -76,11 +76,16 @@ fn type_of(c: Cell, x: usize, y: usize, z: usize) -> LoopType
 // What is answered of a recorded loop, of which its walk told whether it is normal.
 pub(crate) fn answer_of(c: Cell, halves: &[u8], points: &[u32], normal: bool) -> Loop
     requires { (0 < length points.now) × (length halves.now < start_limit) }
-    ensures { loop_numbers result ≡ round_answer c.nodes halves.now points.now normal }
+    ensures { loop_numbers (Some result) ≡ round_answer c.nodes halves.now points.now normal }
 {
     let x = crosses_of(halves, 0);
     let y = crosses_of(halves, 1);
     let z = crosses_of(halves, 2);
     let t = type_of(c, x, y, z);
-    Loop::Found(points[0], halves.len() as u32, normal, t)
+    Loop {
+        p0: points[0],
+        len: halves.len() as u32,
+        normal,
+        kind: t,
+    }
 }

@@ -2,15 +2,16 @@
 ghost use Rattle.std.specs.Prelude.{◌≡◌, ◌-◌, ◌≤◌};
 ghost use Rattle.counting.specs.Lists.{total};
 ghost use Rattle.cell.specs.work.Fits.{next_after, area_after};
-ghost use Rattle.cell.specs.claims.Table.{drawn_cells, table_cell};
-ghost use Rattle.cell.specs.work.Table.{most_triangles, walked_at};
+ghost use Rattle.cell.specs.claims.Table.{drawn_cells};
+ghost use Rattle.cell.specs.work.Tables.{cell_in, drawn_in, walked_in};
+ghost use Rattle.cell.specs.work.Table.{most_triangles};
 ghost use Rattle.cell.specs.work.Walked.{Few, Spacious, Sized};
 
 use super::entries::{counted_at, counts_at, greatest};
 use super::level::is_known;
 use super::triangles::{count_in, put_in};
-use super::{FEW_COUNT, FEW_IN_CELL, MOST_IN_CELL};
-use slots::{MOST_CELLS, MOST_EDGES, MOST_SLOTS};
+use super::{FEW_COUNT, FEW_IN_CELL, MOST_IN_CELL, Tables};
+use slots::MOST_CELLS;
 
 // How many cells are drawn.
 pub fn drawn(cells: &[u16]) -> usize
@@ -25,29 +26,20 @@ pub fn drawn(cells: &[u16]) -> usize
 
 // How many triangles those cells have that are walked to be counted: some count is above 2, and some face has an odd sum or a count above the other two.
 // The arrays are the walks', here and below.
-fn walked_in_all(
-    cells: &[u16],
-    counts: &[u16],
-    names: &[u16; MOST_SLOTS],
-    sides: &[u16; MOST_EDGES],
-    starts: &[u32],
-    marks: &mut [u16],
-    halves: &mut [u8],
-    points: &mut [u32],
-) -> usize
-    requires { Spacious counts.now sides.now marks.old halves.old points.old }
-    ensures value { (result ≡ total (walked_at cells.now counts.now names.now sides.now starts.now) (drawn_cells cells.now) 0) × (result ≤ most_triangles) }
+fn walked_in_all(tables: Tables, marks: &mut [u16], halves: &mut [u8], points: &mut [u32]) -> usize
+    requires { Spacious tables.counts.now tables.sides.now marks.old halves.old points.old }
+    ensures value { (result ≡ total (walked_in tables.entry) (drawn_in tables.entry) 0) × (result ≤ most_triangles) }
     ensures sized { Sized marks.old halves.old points.old marks.new halves.new points.new }
 {
-    let n = drawn(cells);
+    let n = drawn(tables.cells);
     let mut t: usize = 0;
     let mut c: usize = 0;
     while c < n {
-        if is_known(counts_at(counts, sides, c)) {
+        if is_known(counts_at(tables.counts, tables.sides, c)) {
             c += 1;
             continue;
         }
-        let x = counted_at(cells, counts, names, sides, starts, c);
+        let x = counted_at(tables, c);
         t += count_in(x.cell, x.crossings, 0, marks, halves, points);
         c += 1;
     }
@@ -56,53 +48,25 @@ fn walked_in_all(
 
 // How many triangles those cells have that neither the table of common cells nor the booking knows. The walks' arrays are smaller ones where no count
 // needs more. About 178 KB of stack.
-pub fn count_walked(
-    cells: &[u16],
-    counts: &[u16],
-    names: &[u16; MOST_SLOTS],
-    sides: &[u16; MOST_EDGES],
-    starts: &[u32],
-) -> usize
-    ensures { (result ≡ total (walked_at cells.now counts.now names.now sides.now starts.now) (drawn_cells cells.now) 0) × (result ≤ most_triangles) }
+pub fn count_walked(tables: Tables) -> usize
+    ensures { (result ≡ total (walked_in tables.entry) (drawn_in tables.entry) 0) × (result ≤ most_triangles) }
 {
-    if greatest(counts) <= FEW_COUNT {
+    if greatest(tables.counts) <= FEW_COUNT {
         let mut marks = [0u16; FEW_IN_CELL];
         let mut halves = [0u8; FEW_IN_CELL];
         let mut points = [0u32; FEW_IN_CELL];
-        return walked_in_all(
-            cells,
-            counts,
-            names,
-            sides,
-            starts,
-            &mut marks,
-            &mut halves,
-            &mut points,
-        );
+        return walked_in_all(tables, &mut marks, &mut halves, &mut points);
     }
     let mut marks = [0u16; MOST_IN_CELL];
     let mut halves = [0u8; MOST_IN_CELL];
     let mut points = [0u32; MOST_IN_CELL];
-    walked_in_all(
-        cells,
-        counts,
-        names,
-        sides,
-        starts,
-        &mut marks,
-        &mut halves,
-        &mut points,
-    )
+    walked_in_all(tables, &mut marks, &mut halves, &mut points)
 }
 
 // Writes the words of the triangles of the cells from c up to `end` from index `at` of the area on, cell after cell, each cell's where they have room
 // from where the last left off, and answers the next index.
 fn put_in_all(
-    cells: &[u16],
-    counts: &[u16],
-    names: &[u16; MOST_SLOTS],
-    sides: &[u16; MOST_EDGES],
-    starts: &[u32],
+    tables: Tables,
     c: usize,
     end: usize,
     marks: &mut [u16],
@@ -111,14 +75,14 @@ fn put_in_all(
     area: &mut [u32],
     at: usize,
 ) -> usize
-    requires { Spacious counts.now sides.now marks.old halves.old points.old }
-    ensures value { (result ≡ next_after (table_cell cells.now counts.now names.now sides.now starts.now) c area.old at (end - c)) × (area.new ≡ area_after (table_cell cells.now counts.now names.now sides.now starts.now) c area.old at (end - c)) }
+    requires { Spacious tables.counts.now tables.sides.now marks.old halves.old points.old }
+    ensures value { (result ≡ next_after (cell_in tables.entry) c area.old at (end - c)) × (area.new ≡ area_after (cell_in tables.entry) c area.old at (end - c)) }
     ensures sized { Sized marks.old halves.old points.old marks.new halves.new points.new }
 {
     let mut i = at;
     let mut k = c;
     while k < end {
-        let x = counted_at(cells, counts, names, sides, starts, k);
+        let x = counted_at(tables, k);
         i = put_in(x.cell, x.crossings, marks, halves, points, area, i);
         k += 1;
     }
@@ -126,29 +90,15 @@ fn put_in_all(
 }
 
 // The same, with arrays of its own, which suffice where no count is above `FEW_COUNT`. About 10 KB of stack.
-fn put_few(
-    cells: &[u16],
-    counts: &[u16],
-    names: &[u16; MOST_SLOTS],
-    sides: &[u16; MOST_EDGES],
-    starts: &[u32],
-    c: usize,
-    end: usize,
-    area: &mut [u32],
-    at: usize,
-) -> usize
-    requires { Few counts.now }
-    ensures { (result ≡ next_after (table_cell cells.now counts.now names.now sides.now starts.now) c area.old at (end - c)) × (area.new ≡ area_after (table_cell cells.now counts.now names.now sides.now starts.now) c area.old at (end - c)) }
+fn put_few(tables: Tables, c: usize, end: usize, area: &mut [u32], at: usize) -> usize
+    requires { Few tables.counts.now }
+    ensures { (result ≡ next_after (cell_in tables.entry) c area.old at (end - c)) × (area.new ≡ area_after (cell_in tables.entry) c area.old at (end - c)) }
 {
     let mut marks = [0u16; FEW_IN_CELL];
     let mut halves = [0u8; FEW_IN_CELL];
     let mut points = [0u32; FEW_IN_CELL];
     put_in_all(
-        cells,
-        counts,
-        names,
-        sides,
-        starts,
+        tables,
         c,
         end,
         &mut marks,
@@ -161,31 +111,17 @@ fn put_few(
 
 // Writes the words of the triangles of the cells from c up to `end` from index `at` of the area on, each cell's where they have room, and answers the next
 // index; for any counts. About 178 KB of stack.
-pub fn write_cells(
-    cells: &[u16],
-    counts: &[u16],
-    names: &[u16; MOST_SLOTS],
-    sides: &[u16; MOST_EDGES],
-    starts: &[u32],
-    c: usize,
-    end: usize,
-    area: &mut [u32],
-    at: usize,
-) -> usize
-    ensures { (result ≡ next_after (table_cell cells.now counts.now names.now sides.now starts.now) c area.old at (end - c)) × (area.new ≡ area_after (table_cell cells.now counts.now names.now sides.now starts.now) c area.old at (end - c)) }
+pub fn write_cells(tables: Tables, c: usize, end: usize, area: &mut [u32], at: usize) -> usize
+    ensures { (result ≡ next_after (cell_in tables.entry) c area.old at (end - c)) × (area.new ≡ area_after (cell_in tables.entry) c area.old at (end - c)) }
 {
-    if greatest(counts) <= FEW_COUNT {
-        return put_few(cells, counts, names, sides, starts, c, end, area, at);
+    if greatest(tables.counts) <= FEW_COUNT {
+        return put_few(tables, c, end, area, at);
     }
     let mut marks = [0u16; MOST_IN_CELL];
     let mut halves = [0u8; MOST_IN_CELL];
     let mut points = [0u32; MOST_IN_CELL];
     put_in_all(
-        cells,
-        counts,
-        names,
-        sides,
-        starts,
+        tables,
         c,
         end,
         &mut marks,

@@ -4,12 +4,13 @@ ghost use Rattle.slots.specs.Limits.{most_count, most_cells};
 ghost use Rattle.cell.specs.Cell.{crossings};
 ghost use Rattle.cell.specs.Of.{edges_of};
 ghost use Rattle.cell.specs.work.Limits.{most_in_cell};
-ghost use Rattle.cell.specs.claims.Table.{short_limit, table_counts, table_starts, of_four, table_cell, taken_counts};
+ghost use Rattle.cell.specs.claims.Table.{short_limit, table_counts, table_starts, of_four, taken_counts};
+ghost use Rattle.cell.specs.work.Tables.{cell_in};
 
 use super::routes::crossings_of;
-use super::{Cell, Counted};
+use super::{Cell, Counted, Tables};
 use counting::wide16;
-use slots::{MOST_CELLS, MOST_COUNT, MOST_EDGES, MOST_SLOTS};
+use slots::{MOST_CELLS, MOST_COUNT, MOST_EDGES};
 
 // Entry i of a list, 0 past its end.
 fn entry(list: &[u16], i: usize) -> u16
@@ -110,21 +111,16 @@ pub(crate) fn greatest(counts: &[u16]) -> u16
 }
 
 // Cell c, and how many crossings it has: these are added up before the cell is stored.
-pub(crate) fn counted_at(
-    cells: &[u16],
-    counts: &[u16],
-    names: &[u16; MOST_SLOTS],
-    sides: &[u16; MOST_EDGES],
-    starts: &[u32],
-    c: usize,
-) -> Counted
-    ensures { (result.cell ≡ table_cell cells.now counts.now names.now sides.now starts.now c) × (result.crossings ≡ crossings (edges_of result.cell)) × (result.crossings ≤ most_in_cell) }
+pub(crate) fn counted_at(tables: Tables, c: usize) -> Counted
+    ensures { (result.cell ≡ cell_in tables.entry c) × (result.crossings ≡ crossings (edges_of result.cell)) × (result.crossings ≤ most_in_cell) }
 {
     let m = c % MOST_CELLS;
-    let edge_counts = counts_of(counts, sides, m);
-    let edge_starts = starts_of(starts, sides, m);
+    let sides = tables.sides;
+    let names = tables.names;
+    let edge_counts = counts_of(tables.counts, sides, m);
+    let edge_starts = starts_of(tables.starts, sides, m);
     let slot_names = four_of(names, m);
-    let nodes = four_of(cells, m);
+    let nodes = four_of(tables.cells, m);
     let cell = Cell {
         counts: edge_counts,
         starts: edge_starts,
@@ -137,16 +133,9 @@ pub(crate) fn counted_at(
 }
 
 // Cell c.
-pub fn cell_at(
-    cells: &[u16],
-    counts: &[u16],
-    names: &[u16; MOST_SLOTS],
-    sides: &[u16; MOST_EDGES],
-    starts: &[u32],
-    c: usize,
-) -> Cell
-    ensures { result ≡ table_cell cells.now counts.now names.now sides.now starts.now c }
+pub fn cell_at(tables: Tables, c: usize) -> Cell
+    ensures { result ≡ cell_in tables.entry c }
 {
-    let x = counted_at(cells, counts, names, sides, starts, c);
+    let x = counted_at(tables, c);
     x.cell
 }

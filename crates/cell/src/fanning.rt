@@ -1,34 +1,25 @@
 // The fans of all cells, counted, and their middles written.
 ghost use Rattle.std.specs.Prelude.{◌≡◌, ◌-◌, ◌≤◌};
-ghost use Rattle.cell.specs.work.Table.{most_triangles, table_fans, middles_written};
+ghost use Rattle.cell.specs.work.Table.{most_triangles};
+ghost use Rattle.cell.specs.work.Tables.{fans_all, middles_put};
 ghost use Rattle.cell.specs.work.Walked.{Few, Spacious, Sized};
 
 use super::drawing::drawn;
 use super::entries::{counted_at, greatest};
 use super::middles::{fans_in, middles_in};
-use super::{FEW_COUNT, FEW_IN_CELL, MOST_IN_CELL};
-use slots::{MOST_EDGES, MOST_SLOTS};
+use super::{FEW_COUNT, FEW_IN_CELL, MOST_IN_CELL, Tables};
 
 // How many fans the cells of the tables have. The arrays are the walks', here and below.
-fn fans_in_all(
-    cells: &[u16],
-    counts: &[u16],
-    names: &[u16; MOST_SLOTS],
-    sides: &[u16; MOST_EDGES],
-    starts: &[u32],
-    marks: &mut [u16],
-    halves: &mut [u8],
-    points: &mut [u32],
-) -> usize
-    requires { Spacious counts.now sides.now marks.old halves.old points.old }
-    ensures value { (result ≡ table_fans cells.now counts.now names.now sides.now starts.now) × (result ≤ most_triangles) }
+fn fans_in_all(tables: Tables, marks: &mut [u16], halves: &mut [u8], points: &mut [u32]) -> usize
+    requires { Spacious tables.counts.now tables.sides.now marks.old halves.old points.old }
+    ensures value { (result ≡ fans_all tables.entry) × (result ≤ most_triangles) }
     ensures sized { Sized marks.old halves.old points.old marks.new halves.new points.new }
 {
-    let n = drawn(cells);
+    let n = drawn(tables.cells);
     let mut t: usize = 0;
     let mut c: usize = 0;
     while c < n {
-        let x = counted_at(cells, counts, names, sides, starts, c);
+        let x = counted_at(tables, c);
         t += fans_in(x.cell, x.crossings, marks, halves, points);
         c += 1;
     }
@@ -36,53 +27,25 @@ fn fans_in_all(
 }
 
 // How many fans all cells have. The walks' arrays are smaller ones where no count needs more. About 178 KB of stack.
-pub fn count_fans(
-    cells: &[u16],
-    counts: &[u16],
-    names: &[u16; MOST_SLOTS],
-    sides: &[u16; MOST_EDGES],
-    starts: &[u32],
-) -> usize
-    ensures { (result ≡ table_fans cells.now counts.now names.now sides.now starts.now) × (result ≤ most_triangles) }
+pub fn count_fans(tables: Tables) -> usize
+    ensures { (result ≡ fans_all tables.entry) × (result ≤ most_triangles) }
 {
-    if greatest(counts) <= FEW_COUNT {
+    if greatest(tables.counts) <= FEW_COUNT {
         let mut marks = [0u16; FEW_IN_CELL];
         let mut halves = [0u8; FEW_IN_CELL];
         let mut points = [0u32; FEW_IN_CELL];
-        return fans_in_all(
-            cells,
-            counts,
-            names,
-            sides,
-            starts,
-            &mut marks,
-            &mut halves,
-            &mut points,
-        );
+        return fans_in_all(tables, &mut marks, &mut halves, &mut points);
     }
     let mut marks = [0u16; MOST_IN_CELL];
     let mut halves = [0u8; MOST_IN_CELL];
     let mut points = [0u32; MOST_IN_CELL];
-    fans_in_all(
-        cells,
-        counts,
-        names,
-        sides,
-        starts,
-        &mut marks,
-        &mut halves,
-        &mut points,
-    )
+    fans_in_all(tables, &mut marks, &mut halves, &mut points)
 }
 
 // Writes the middles of the fans of the cells from c up to `end`, cell by cell, from point `at` of the area on, and answers the next point. `nodes` has the
 // nodes' places. Of a cell whose middles have no room, or one of whose crossings has no place before the next point, nothing is written.
 fn middles_in_all(
-    cells: &[u16],
-    counts: &[u16],
-    names: &[u16; MOST_SLOTS],
-    sides: &[u16; MOST_EDGES],
-    starts: &[u32],
+    tables: Tables,
     c: usize,
     end: usize,
     marks: &mut [u16],
@@ -92,14 +55,14 @@ fn middles_in_all(
     area: &mut [f64],
     at: usize,
 ) -> usize
-    requires { Spacious counts.now sides.now marks.old halves.old points.old }
-    ensures result_after { (area.new, result) ≡ middles_written cells.now counts.now names.now sides.now starts.now nodes.now c area.old at (end - c) }
+    requires { Spacious tables.counts.now tables.sides.now marks.old halves.old points.old }
+    ensures result_after { (area.new, result) ≡ middles_put tables.entry nodes.now c area.old at (end - c) }
     ensures sized { Sized marks.old halves.old points.old marks.new halves.new points.new }
 {
     let mut i = at;
     let mut k = c;
     while k < end {
-        let x = counted_at(cells, counts, names, sides, starts, k);
+        let x = counted_at(tables, k);
         i = middles_in(x.cell, x.crossings, marks, halves, points, nodes, area, i);
         k += 1;
     }
@@ -108,29 +71,21 @@ fn middles_in_all(
 
 // The same, with arrays of its own, which suffice where no count is above `FEW_COUNT`. About 10 KB of stack.
 fn few_middles(
-    cells: &[u16],
-    counts: &[u16],
-    names: &[u16; MOST_SLOTS],
-    sides: &[u16; MOST_EDGES],
-    starts: &[u32],
+    tables: Tables,
     c: usize,
     end: usize,
     nodes: &[f64],
     area: &mut [f64],
     at: usize,
 ) -> usize
-    requires { Few counts.now }
-    ensures { (area.new, result) ≡ middles_written cells.now counts.now names.now sides.now starts.now nodes.now c area.old at (end - c) }
+    requires { Few tables.counts.now }
+    ensures { (area.new, result) ≡ middles_put tables.entry nodes.now c area.old at (end - c) }
 {
     let mut marks = [0u16; FEW_IN_CELL];
     let mut halves = [0u8; FEW_IN_CELL];
     let mut points = [0u32; FEW_IN_CELL];
     middles_in_all(
-        cells,
-        counts,
-        names,
-        sides,
-        starts,
+        tables,
         c,
         end,
         &mut marks,
@@ -145,31 +100,23 @@ fn few_middles(
 // Writes the middles of the fans of the cells from c up to `end` from point `at` of the area on, each cell's where they have room and all its crossings a
 // place, and answers the next point; for any counts. About 178 KB of stack.
 pub fn write_middles(
-    cells: &[u16],
-    counts: &[u16],
-    names: &[u16; MOST_SLOTS],
-    sides: &[u16; MOST_EDGES],
-    starts: &[u32],
+    tables: Tables,
     c: usize,
     end: usize,
     nodes: &[f64],
     area: &mut [f64],
     at: usize,
 ) -> usize
-    ensures { (area.new, result) ≡ middles_written cells.now counts.now names.now sides.now starts.now nodes.now c area.old at (end - c) }
+    ensures { (area.new, result) ≡ middles_put tables.entry nodes.now c area.old at (end - c) }
 {
-    if greatest(counts) <= FEW_COUNT {
-        return few_middles(cells, counts, names, sides, starts, c, end, nodes, area, at);
+    if greatest(tables.counts) <= FEW_COUNT {
+        return few_middles(tables, c, end, nodes, area, at);
     }
     let mut marks = [0u16; MOST_IN_CELL];
     let mut halves = [0u8; MOST_IN_CELL];
     let mut points = [0u32; MOST_IN_CELL];
     middles_in_all(
-        cells,
-        counts,
-        names,
-        sides,
-        starts,
+        tables,
         c,
         end,
         &mut marks,

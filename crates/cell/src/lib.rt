@@ -8,12 +8,13 @@ ghost use Rattle.cell.specs.Loop.{loop_answer};
 ghost use Rattle.cell.specs.Answer.{loop_numbers};
 ghost use Rattle.cell.specs.work.Walked.{Room, Used};
 
-use slots::MOST_COUNT;
+use slots::{MOST_COUNT, MOST_EDGES, MOST_SLOTS};
 
 mod answers;
 mod drawing;
 mod entries;
 mod fanning;
+mod half_edges;
 mod level;
 mod make;
 mod middles;
@@ -23,7 +24,6 @@ mod part_middles;
 mod parts;
 mod routes;
 mod steps;
-mod tables;
 mod triangles;
 mod walks;
 mod words;
@@ -60,6 +60,17 @@ pub struct Cell {
     pub index: u32,
 }
 
+// The tables of a grid that its cells are read from: the cells' nodes, the edges' counts, the names of the faces in the slots, the edges in the cells, and the
+// first crossing numbers of the edges.
+#[derive(Clone, Copy)]
+pub struct Tables<'a> {
+    pub cells: &'a [u16],
+    pub counts: &'a [u16],
+    pub names: &'a [u16; MOST_SLOTS],
+    pub sides: &'a [u16; MOST_EDGES],
+    pub starts: &'a [u32],
+}
+
 // A cell, and how many crossings it has.
 #[derive(Clone, Copy)]
 struct Counted {
@@ -77,11 +88,13 @@ pub enum LoopType {
     LowestCorner(u16),
 }
 
-// A loop of a cell: its least crossing in the grid, its length, normal or not, and its type; or that there is none.
+// A loop of a cell: its least crossing in the grid, its length, normal or not, and its type.
 #[derive(Clone, Copy)]
-pub enum Loop {
-    Found(u32, u32, bool, LoopType),
-    Nothing,
+pub struct Loop {
+    pub p0: u32,
+    pub len: u32,
+    pub normal: bool,
+    pub kind: LoopType,
 }
 
 // A corner of a triangle: a crossing by its number, or the middle point of the triangle's loop.
@@ -156,7 +169,7 @@ struct Trip {
     normal: bool,
 }
 
-// Loop k of the cell, which has n crossings, or that there are k or fewer. The arrays are the walks'.
+// Loop k of the cell, which has n crossings, or none where there are k or fewer. The arrays are the walks'.
 fn loop_in(
     c: Cell,
     n: usize,
@@ -164,7 +177,7 @@ fn loop_in(
     marks: &mut [u16],
     halves: &mut [u8],
     points: &mut [u32],
-) -> Loop
+) -> Option<Loop>
     requires { Room c n marks.old halves.old points.old }
     ensures result_value { loop_numbers result ≡ loop_answer (edges_of c) c.nodes k }
     ensures used { Used n marks.old halves.old points.old marks.new halves.new points.new }
@@ -181,15 +194,15 @@ fn loop_in(
             continue;
         }
         if left == 0 {
-            return answers::answer_of(c, &halves[0..m], &points[0..m], t.normal);
+            return Some(answers::answer_of(c, &halves[0..m], &points[0..m], t.normal));
         }
         left -= 1;
     }
-    Loop::Nothing
+    None
 }
 
-// Loop k of the cell, or that there are k or fewer. The walks' arrays stand on the stack.
-pub fn loop_at(c: Cell, k: usize) -> Loop
+// Loop k of the cell, or none where there are k or fewer. The walks' arrays stand on the stack.
+pub fn loop_at(c: Cell, k: usize) -> Option<Loop>
     ensures { loop_numbers result ≡ loop_answer (edges_of (limited c)) c.nodes k }
 {
     let v = routes::within(c);

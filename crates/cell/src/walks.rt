@@ -9,7 +9,7 @@ ghost use Rattle.cell.specs.work.Route.{Routed};
 ghost use Rattle.cell.specs.work.Walked.{Located, Starts, is_met, Lent, Walked};
 
 use super::routes::ROUTES;
-use super::{Cell, Dart, Next, Trip, routes, steps, tables};
+use super::{Cell, Dart, Next, Trip, half_edges, routes, steps};
 use counting::wide16;
 
 // The mark of a crossing that no walk has come to.
@@ -21,7 +21,7 @@ fn is_on(c: Cell, routes: &[usize; ROUTES], e: usize, p: usize) -> bool
     requires e_bound { e < 6 }
     ensures { result ≡ holds (edges_of c) p e }
 {
-    let h = tables::first_of(e);
+    let h = half_edges::first_of(e);
     let first = routes::route(routes, h, routes::FIRST);
     let n = routes::route(routes, h, routes::COUNT);
     if first + n <= p {
@@ -35,7 +35,7 @@ fn first_dart(c: Cell, routes: &[usize; ROUTES], e: usize, p: usize) -> Dart
     requires { Located c routes.now p e }
     ensures { Starts (edges_of c) p result }
 {
-    let h = tables::first_of(e);
+    let h = half_edges::first_of(e);
     let first = routes::route(routes, h, routes::FIRST);
     Dart {
         half: h,

@@ -1,5 +1,5 @@
 -- What is proved of the loops of a cell, for all counts and first numbers.
-use Rattle.std.specs.Prelude.{ℕ, ◌+◌, ◌*◌, ◌/◌, ◌≤◌, ◌<◌, ◌≡◌, ◌⊎◌, ◌≢◌, Bool, true, ◌&&◌, ◌||◌, List, eqb, length, get_or}
+use Rattle.std.specs.Prelude.{ℕ, ◌+◌, ◌*◌, ◌/◌, ◌≤◌, ◌<◌, ◌≡◌, ◌⊎◌, ◌≢◌, Bool, true, ◌&&◌, ◌||◌, List, Option, eqb, length, get_or}
 use Rattle.counting.specs.Lists.{tally, pre}
 use Rattle.slots.specs.Slots.{contains}
 use Rattle.walk.specs.claims.Claims.{Darts, flat, WalkLaws}
@@ -14,7 +14,7 @@ use Rattle.cell.specs.Answer.{type_numbers, loop_numbers}
 -- the readings of the answer in numbers are one to one, so that the numbers determine the enums
 pub record OneToOne : Type 0 where
   pub types : (s t : LoopType) → type_numbers s ≡ type_numbers t → s ≡ t
-  pub loops : (k l : Loop) → loop_numbers k ≡ loop_numbers l → k ≡ l
+  pub loops : (k l : Option Loop) → loop_numbers k ≡ loop_numbers l → k ≡ l
 
 module _ (w : Edges) where
   -- crossing x lies on slot s

@@ -16,7 +16,7 @@ pub put_in-i-requires : goal.put_in-i-requires
 put_in-i-requires c = let A = c.args in
     let L = c.loop-k in
     let x = c.counted_at-x.ensures in
-    sized_room L.invariant.1 A.cells.now A.counts.now A.names.now A.sides.now A.starts.now L.k c.requires x.0 x.1 x.2
+    sized_room L.invariant.1 A.tables.cells.now A.tables.counts.now A.tables.names.now A.tables.sides.now A.tables.starts.now L.k c.requires x.0 x.1 x.2
 
 pub overflow_add-k : goal.overflow_add-k
 overflow_add-k c = omega (arith, c.ranges)
@@ -41,5 +41,5 @@ shape_of-area c = c.loop-k.invariant.2.long
 pub returns : goal.returns
 returns c = let A = c.args in
     let I = c.loop-k.invariant in
-    let t = table_cell A.cells.now A.counts.now A.names.now A.sides.now A.starts.now in
+    let t = table_cell A.tables.cells.now A.tables.counts.now A.tables.names.now A.tables.sides.now A.tables.starts.now in
     record { value = (I.2.next ∙ ap (next_after t A.c A.area.now A.at) (omega (arith, I.0)), I.2.area ∙ ap (area_after t A.c A.area.now A.at) (omega (arith, I.0))); sized = I.1 }

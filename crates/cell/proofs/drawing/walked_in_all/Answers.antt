@@ -44,7 +44,7 @@ loop-c-preserved-then-is_known c = let A = c.args in
     let I = c.loop-c.invariant in (
       omega arith,
       I.1,
-      passed A.cells.now A.counts.now A.names.now A.sides.now A.starts.now I.2
+      passed A.tables.cells.now A.tables.counts.now A.tables.names.now A.tables.sides.now A.tables.starts.now I.2
           (ap (λ l. is_known (by_edge l)) (sym c.counts_at.ensures) ∙ sym c.is_known.ensures ∙ c.if-is_known.true),
     )
 
@@ -55,7 +55,7 @@ pub count_in-t-requires : goal.count_in-t-requires
 count_in-t-requires c = let A = c.args in
     let L = c.loop-c in
     let x = c.counted_at-x.ensures in
-    sized_room L.invariant.1 A.cells.now A.counts.now A.names.now A.sides.now A.starts.now L.c c.requires x.0 x.1 x.2
+    sized_room L.invariant.1 A.tables.cells.now A.tables.counts.now A.tables.names.now A.tables.sides.now A.tables.starts.now L.c c.requires x.0 x.1 x.2
 
 pub overflow_add-t : goal.overflow_add-t
 overflow_add-t c = omega (arith, c.count_in-t.ensures.value.1, c.loop-c.invariant.2.few, c.drawn-n.ensures)
@@ -66,7 +66,7 @@ loop-c-preserved c = let A = c.args in
     let N = c.count_in-t.ensures in (
       omega arith,
       sized_on I.1 (used_sized N.used),
-      walked A.cells.now A.counts.now A.names.now A.sides.now A.starts.now I.2
+      walked A.tables.cells.now A.tables.counts.now A.tables.names.now A.tables.sides.now A.tables.starts.now I.2
           (ap (λ l. is_known (by_edge l)) (sym c.counts_at.ensures) ∙ sym c.is_known.ensures ∙ c.if-is_known.false)
           _ (N.value.0 ∙ ap length (with_all _) ∙ ap (λ v. length (cell_triangles v)) c.counted_at-x.ensures.0) N.value.1,
     )

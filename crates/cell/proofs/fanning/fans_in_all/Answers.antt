@@ -19,7 +19,7 @@ pub fans_in-t-requires : goal.fans_in-t-requires
 fans_in-t-requires c = let A = c.args in
     let L = c.loop-c in
     let x = c.counted_at-x.ensures in
-    sized_room L.invariant.1 A.cells.now A.counts.now A.names.now A.sides.now A.starts.now L.c c.requires x.0 x.1 x.2
+    sized_room L.invariant.1 A.tables.cells.now A.tables.counts.now A.tables.names.now A.tables.sides.now A.tables.starts.now L.c c.requires x.0 x.1 x.2
 
 pub overflow_add-t : goal.overflow_add-t
 overflow_add-t c = omega (arith, c.fans_in-t.ensures.value.1, c.loop-c.invariant.2.few, c.drawn-n.ensures)

@@ -7,5 +7,5 @@ few_middles-requires c i = omega (arith, c.greatest.ensures i, c.if-greatest-le-
 
 pub middles_in_all-requires : goal.middles_in_all-requires
 middles_in_all-requires c k = let A = c.args in
-    let h = table_most A.counts.now A.sides.now k in
+    let h = table_most A.tables.counts.now A.tables.sides.now k in
     record { marks_long = h; halves_long = h; points_long = h }

@@ -3,7 +3,7 @@ use native.Mathlib.Omega.{arith}
 use mathlib.Core.Path.{◌≡◌, refl, sym, ap, ◌∙◌}
 use Rattle.slots.specs.Slots.{first_slot}
 use Rattle.cell.specs.work.Half.{half_edges, half_of}
-use Rattle.cell.proofs.tables.first_of.Goals as goal
+use Rattle.cell.proofs.half_edges.first_of.Goals as goal
 
 -- the half-edge in the first slot of the edge i
 first_is : {e i h : ℕ} → half_of (first_slot i) i ≡ h → h < half_edges → e ≡ i → (h ≡ half_of (first_slot e) e) × (h < half_edges)

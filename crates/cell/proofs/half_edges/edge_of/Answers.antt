@@ -4,7 +4,7 @@ use native.Mathlib.Decide.{dec_lt}
 use mathlib.Core.Path.{◌≡◌, refl, sym, ap, ◌∙◌}
 use mathlib.Core.Logic.{◌⊎◌, inl, inr, ⊎_elim, ◌≢◌}
 use Rattle.cell.specs.claims.Half.{edge_of}
-use Rattle.cell.proofs.tables.edge_of.Goals as goal
+use Rattle.cell.proofs.half_edges.edge_of.Goals as goal
 
 -- the edge of both of its half-edges
 of_both : {h a b e : ℕ} → edge_of a ≡ e → edge_of b ≡ e → e < 6 → (h ≡ a) ⊎ (h ≡ b) → (e ≡ edge_of h) × (e < 6)
