@@ -1,4 +1,5 @@
 -- What the call answers and writes, from what its parts leave.
+use Rattle.std.specs.Prelude.{Result, Ok, Err}
 use Prim.Native.Nat.{ℕ, ◌+◌, ◌*◌, ◌/◌, ◌%◌, ◌<◌}
 use mathlib.Core.Path.{◌≡◌, refl, sym, ap, ◌∙◌, subst}
 use mathlib.Core.Logic.{⊎_elim, ◌≢◌}
@@ -14,9 +15,7 @@ use Rattle.answer.proofs.Rows.{row_passes, row_refuses, rows_end, whole_fault, w
 use Rattle.counting.specs.Pick.{pick}
 use Rattle.counting.proofs.Bools.{holds_or}
 use Rattle.counting.proofs.Stored.{filled_whole}
-use Rattle.grid.specs.declared.Checked.{Checked}
-use Rattle.grid.specs.declared.Checked.TheVariants as checked
-use Rattle.grid.specs.declared.Checked.TheVariants.{Crossings}
+use Rattle.answer.specs.declared.Refusal.{Refusal}
 use Rattle.grid.specs.Grid.{Grid, has_node, low, high, built}
 use Rattle.grid.specs.Rows.{grid_answer, accepts}
 use Rattle.grid.specs.Check.{check_numbers}
@@ -24,7 +23,6 @@ use Rattle.grid.specs.claims.Accepted.{Sound}
 use Rattle.grid.proofs.Filled.{refused_keeps, crossings_accept, told_built}
 use Rattle.grid.proofs.Nodes.{low_has, high_has}
 use Rattle.shading.specs.Marks.{most_nodes, unused_byte, final_marks, byte_of, unshaded, side_bytes}
-use Rattle.shading.specs.declared.Shaded.TheVariants.{Refused}
 use Rattle.shading.specs.Answer.{shading_numbers, shading_rows, shading_answer, shading_area}
 use Rattle.shading.specs.Done.{Done}
 use Rattle.shading.specs.work.Work.{across, Agrees, no_link, HasLink, Forest, Fits, AllUnitable, TiedAll, UnitedAll, Roots, BytesBy, Sided, ShadedIn}
@@ -187,18 +185,18 @@ module _ (G : Grid) (before : List ℕ) where
   unfolding shading_area
   area_by answer e = ap (λ (a : List ℕ). pick (is_result a) (side_bytes G) before) e
 
-  module _ (r : Checked) (e : check_numbers r ≡ grid_answer G) where
-    pub refused_done : (row place : ℕ) → r ≡ checked.Refused row place → Done G before before (shading_numbers (Refused row place))
-    refused_done row place q =
-        let f : check_numbers (checked.Refused row place) ≡ grid_answer G = ap check_numbers (sym q) ∙ e in
-        let k = refused_keeps G row place f in
+  module _ (r : Result ℕ Refusal) (e : check_numbers r ≡ grid_answer G) where
+    pub refused_done : (f : Refusal) → r ≡ Err f → Done G before before (shading_numbers (Err f))
+    refused_done f q =
+        let h : check_numbers (Err f) ≡ grid_answer G = ap check_numbers (sym q) ∙ e in
+        let k = refused_keeps G f h in
         let a = kept_answer k in
-        record { answered = f ∙ a; area = sym (ap (λ b. pick b (side_bytes G) before) k) ∙ area_by (grid_answer G) a }
+        record { answered = h ∙ a; area = sym (ap (λ b. pick b (side_bytes G) before) k) ∙ area_by (grid_answer G) a }
 
-    pub shaded_done : (total : ℕ) → r ≡ Crossings total → (after answer : List ℕ)
+    pub shaded_done : (total : ℕ) → r ≡ Ok total → (after answer : List ℕ)
         → ShadedIn (built G.cells G.edges G.counts) before after answer → Done G before after answer
     shaded_done total q after answer B =
         let D = subst (λ H. ShadedIn H before after answer) (sym (told_built G r total q e)) B in
-        let f : check_numbers (Crossings total) ≡ grid_answer G = ap check_numbers (sym q) ∙ e in
+        let f : check_numbers (Ok total) ≡ grid_answer G = ap check_numbers (sym q) ∙ e in
         let a : answer ≡ shading_answer G (length before) = D.answered ∙ rows-answer (crossings_accept G total f) in
         record { answered = a; area = D.area ∙ area_by answer a }

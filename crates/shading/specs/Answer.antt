@@ -1,18 +1,21 @@
 -- The answer of the shading call, and the lent area after it.
-use Rattle.std.specs.Prelude.{ℕ, not, List, [], ◌∷◌, eqb, length}
-use Rattle.answer.specs.Answer.{result_of, is_result, refused}
+use Rattle.std.specs.Prelude.{ℕ, not, List, [], ◌∷◌, eqb, length, Result}
+use Rattle.answer.specs.Answer.{result_of, is_result}
+use Rattle.answer.specs.Refusal.{answer_numbers}
+use Rattle.answer.specs.declared.Refusal.{Refusal}
 use Rattle.answer.specs.Rows.{Row, whole, answer_of}
 use Rattle.counting.specs.Pick.{pick}
 use Rattle.grid.specs.Grid.{Grid}
 use Rattle.grid.specs.Rows.{grid_answer, accepts}
-use Rattle.shading.specs.declared.Shaded.{Shaded}
-use Rattle.shading.specs.declared.Shaded.TheVariants.{Written, Refused}
 use Rattle.shading.specs.Marks.{most_nodes, unshaded, side_bytes}
+
+-- what the call answers: the area is written, or a refusal
+abbrev pub Shaded : Type 0
+Shaded = Result (Unit {0}) Refusal
 
 -- the call's answer as numbers: a result has none
 abbrev pub shading_numbers : Shaded → List ℕ
-shading_numbers Written = result_of []
-shading_numbers (Refused row place) = refused row place
+shading_numbers = answer_numbers (λ _. [])
 
 module _ (G : Grid) where
   -- the rows 19 and 20 (02), for an area of `room` bytes

@@ -3,8 +3,6 @@
 ghost use Rattle.std.specs.Prelude.{◌<◌};
 ghost use Rattle.shading.specs.work.Work.{Halvable, HalvedAt, Rooted, Found, Unitable, United, AllUnitable, UnitedAll, Rootable, Roots};
 
-use counting::wide16;
-
 // What a node that no cell has holds instead of a link.
 pub(crate) const NO_LINK: u16 = 65535;
 
@@ -13,11 +11,8 @@ pub(crate) fn make_roots(cells: &[u16], links: &mut [u16])
     requires { Rootable cells.now links.old }
     ensures { Roots cells.now links.new }
 {
-    let mut j = 0;
-    while j < cells.len() {
-        let x = cells[j];
-        links[wide16(x)] = 2 * x;
-        j += 1;
+    for x in cells {
+        links[*x as usize] = 2 * *x;
     }
 }
 
@@ -26,9 +21,9 @@ fn halve(links: &mut [u16], y: usize) -> usize
     requires { Halvable links.old y }
     ensures { HalvedAt links.old y links.new result }
 {
-    let l = wide16(links[y]);
+    let l = links[y] as usize;
     let p = l / 2;
-    let m = wide16(links[p]);
+    let m = links[p] as usize;
     let z = 2 * (m / 2) + (m + l) % 2;
     links[y] = z as u16;
     z
@@ -41,12 +36,13 @@ fn find(links: &mut [u16], x: usize) -> usize
 {
     let mut y = x;
     let mut side = 0;
-    let mut p = wide16(links[x]) / 2;
+    let mut p = links[x] as usize / 2;
+    // Stays: a while, since the next node comes from the links and not from a range.
     while p != y {
         let z = halve(links, y);
         side = (side + z) % 2;
         y = z / 2;
-        p = wide16(links[y]) / 2;
+        p = links[y] as usize / 2;
     }
     2 * y + side
 }
@@ -79,14 +75,12 @@ pub(crate) fn unite_all(edges: &[u16], counts: &[u16], links: &mut [u16]) -> boo
     requires { AllUnitable edges.now counts.now links.old }
     ensures { UnitedAll edges.now counts.now links.old links.new result }
 {
-    let mut e = 0;
-    while e < counts.len() {
-        let u = wide16(edges[2 * e]);
-        let v = wide16(edges[2 * e + 1]);
-        if !unite(links, u, v, wide16(counts[e])) {
+    for e in 0..counts.len() {
+        let u = edges[2 * e] as usize;
+        let v = edges[2 * e + 1] as usize;
+        if !unite(links, u, v, counts[e] as usize) {
             return false;
         }
-        e += 1;
     }
     true
 }

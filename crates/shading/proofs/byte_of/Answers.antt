@@ -1,3 +1,4 @@
+use mathlib.Core.Path.{refl}
 use native.Mathlib.Omega.{arith}
 use Rattle.shading.proofs.Bytes.{byte_free, root_read, child_read}
 use Rattle.shading.proofs.byte_of.Goals as goal
@@ -7,12 +8,12 @@ returns-then-links-x c = let a = c.args in byte_free a.links.now a.area.now a.x 
 
 pub returns-then-p-x : goal.returns-then-p-x
 returns-then-p-x c = let a = c.args in
-    root_read a.links.now a.area.now a.x c.if-links-x.false c.wide16-l.result c.wide16-l.ensures.0 c.if-p-x.true
+    root_read a.links.now a.area.now a.x c.if-links-x.false _ refl c.if-p-x.true
 
 pub bounds-area-p : goal.bounds-area-p
 bounds-area-p c = let P = c.requires in
-    omega (arith, P.writable.room, P.x_lt_most_nodes, c.wide16-l.ensures.0, P.writable.forest.low_parent c.args.x (P.x_lt_most_nodes, c.if-links-x.false))
+    omega (arith, P.writable.room, P.x_lt_most_nodes, P.writable.forest.low_parent c.args.x (P.x_lt_most_nodes, c.if-links-x.false))
 
 pub returns : goal.returns
 returns c = let a = c.args in
-    child_read a.links.now a.area.now a.x c.if-links-x.false c.wide16-l.result c.wide16-l.ensures.0 c.if-p-x.false c.wide8.result c.wide8.ensures.0
+    child_read a.links.now a.area.now a.x c.if-links-x.false _ refl c.if-p-x.false _ refl

@@ -4,22 +4,22 @@ use Rattle.shading.proofs.Bytes.{writing_none, still_writable, writing_more, wri
 use Rattle.shading.proofs.write_sides.Goals as goal
 
 pub loop-x-init : goal.loop-x-init
-loop-x-init c = (omega arith, writing_none _ _ c.requires)
+loop-x-init c = writing_none _ _ c.requires
 
 pub byte_of-requires : goal.byte_of-requires
 byte_of-requires c = let l = c.loop-x in
-    record { writable = still_writable c.args.links.now c.args.area.now l.x l.area c.requires l.invariant.1; x_lt_most_nodes = omega arith }
+    record { writable = still_writable c.args.links.now c.args.area.now l.x l.area c.requires l.invariant; x_lt_most_nodes = omega arith }
 
 pub bounds-area-x : goal.bounds-area-x
-bounds-area-x c = omega (arith, c.loop-x.invariant.1.long)
+bounds-area-x c = omega (arith, c.loop-x.invariant.long)
 
 pub loop-x-preserved : goal.loop-x-preserved
 loop-x-preserved c = let l = c.loop-x in
-    (omega arith, writing_more c.args.links.now c.args.area.now l.x l.area c.requires l.invariant.1 c.byte_of.result c.byte_of.ensures (omega arith) _ refl)
+    writing_more c.args.links.now c.args.area.now l.x l.area c.requires l.invariant c.byte_of.result c.byte_of.ensures (omega arith) _ refl
 
 pub shape_of-area : goal.shape_of-area
-shape_of-area c = c.loop-x.invariant.1.long ∙ sym c.requires.room
+shape_of-area c = c.loop-x.invariant.long ∙ sym c.requires.room
 
 pub returns : goal.returns
 returns c = let l = c.loop-x in
-    writing_all c.args.links.now c.args.area.now l.x l.area c.requires l.invariant.1 (omega arith) l.invariant.0
+    writing_all c.args.links.now c.args.area.now l.x l.area c.requires l.invariant (omega arith) (omega arith)

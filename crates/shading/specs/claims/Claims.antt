@@ -1,42 +1,41 @@
 -- What is proved of the shading call, besides its contract, in the words of 02.
-use Rattle.std.specs.Prelude.{ℕ, ◌+◌, ◌%◌, ◌<◌, ◌≡◌, ◌≢◌, List, [], ◌∷◌, length}
+use Rattle.std.specs.Prelude.{ℕ, ◌+◌, ◌%◌, ◌<◌, ◌≡◌, ◌≢◌, List, [], ◌∷◌, length, Ok, Err}
 use Rattle.answer.specs.Answer.{result_of, refusal}
+use Rattle.answer.specs.Refusal.{refusal_numbers}
+use Rattle.answer.specs.declared.Refusal.{Refusal}
+use Rattle.answer.specs.declared.Row.TheVariants as row
 use Rattle.slots.specs.Slots.{slot_edge}
-use Rattle.grid.specs.declared.Checked.TheVariants as checked
 use Rattle.grid.specs.Grid.{Grid, cell_count, edge_number, count_of}
 use Rattle.grid.specs.Rows.{grid_answer}
-use Rattle.grid.specs.Check.{check_numbers}
 use Rattle.grid.specs.claims.Accepted.{Accepted}
-use Rattle.shading.specs.declared.Shaded.{Shaded}
-use Rattle.shading.specs.declared.Shaded.TheVariants.{Written, Refused}
 use Rattle.shading.specs.Marks.{most_nodes}
 use Rattle.shading.specs.claims.Shading.{IsShading, NoShading, IsShadingArea}
-use Rattle.shading.specs.Answer.{shading_numbers, shading_answer}
+use Rattle.shading.specs.Answer.{Shaded, shading_numbers, shading_answer}
 use Rattle.shading.specs.Done.{Done}
 use Rattle.shading.specs.examples.Examples.{ring, ring_counts}
 
 -- what the call's answer says, and the lent area after it
 pub record Says (G : Grid) (before after : List ℕ) (answer : Shaded) : Type 1 where
   -- the rows of the grid come first: a grid that the check refuses is refused so
-  pub unsound : (row place : ℕ) → check_numbers (checked.Refused row place) ≡ grid_answer G → answer ≡ Refused row place
+  pub unsound : (r : Refusal) → refusal_numbers r ≡ grid_answer G → answer ≡ Err r
   -- 19 for an area of another length, whether there is a shading or not
-  pub other-length : Accepted G → length before ≢ most_nodes → answer ≡ Refused 19 0
+  pub other-length : Accepted G → length before ≢ most_nodes → answer ≡ Err (record { row = row.ShadingArea; place = 0 })
   -- 20 where there is no shading, and only there
-  pub refused : Accepted G → length before ≡ most_nodes → NoShading G → answer ≡ Refused 20 0
-  pub none : (place : ℕ) → answer ≡ Refused 20 place → NoShading G
+  pub refused : Accepted G → length before ≡ most_nodes → NoShading G → answer ≡ Err (record { row = row.NoShading; place = 0 })
+  pub none : (place : ℕ) → answer ≡ Err (record { row = row.NoShading; place = place }) → NoShading G
   -- where there is one, the area is written
-  pub shaded : Accepted G → length before ≡ most_nodes → (side : ℕ → ℕ) → IsShading G side → answer ≡ Written
+  pub shaded : Accepted G → length before ≡ most_nodes → (side : ℕ → ℕ) → IsShading G side → answer ≡ Ok tt
   -- it then is a shading as 02 asks, and no other area is one
-  pub written : answer ≡ Written → IsShadingArea G after
-  pub only : answer ≡ Written → (area : List ℕ) → IsShadingArea G area → area ≡ after
+  pub written : answer ≡ Ok tt → IsShadingArea G after
+  pub only : answer ≡ Ok tt → (area : List ℕ) → IsShadingArea G area → area ≡ after
   -- a refusal keeps every byte
-  pub kept : (row place : ℕ) → answer ≡ Refused row place → after ≡ before
+  pub kept : (r : Refusal) → answer ≡ Err r → after ≡ before
 
 -- of every answer and area that the contract allows
 abbrev pub CallSays : Type 1
 CallSays = (G : Grid) (before after : List ℕ) (answer : Shaded) → Done G before after (shading_numbers answer) → Says G before after answer
 
--- the numbers tell the answer: no two values of the enum are read as the same answer of the call
+-- the numbers tell the answer: no two values are read as the same answer of the call
 abbrev pub ShadingTold : Type 0
 ShadingTold = (G : Grid) (room : ℕ) (r s : Shaded) → shading_numbers r ≡ shading_answer G room → shading_numbers s ≡ shading_answer G room → r ≡ s
 

@@ -1,5 +1,4 @@
-use Prim.Native.Nat.{◌/◌}
-use mathlib.Core.Path.{sym, ap, ◌∙◌}
+use mathlib.Core.Path.{refl, sym, ◌∙◌}
 use native.Mathlib.Omega.{arith}
 use Rattle.shading.proofs.Forests.{finding_none, finding_more, finding_end}
 use Rattle.shading.proofs.links.find.Goals as goal
@@ -9,7 +8,7 @@ bounds-links-x c = omega (arith, c.requires.linked.0, c.requires.forest.long)
 
 pub loop-p-init : goal.loop-p-init
 loop-p-init c = let a = c.args in
-    (finding_none a.links.now a.x c.requires, ap (λ k. k / 2) c.wide16-p.ensures.0)
+    (finding_none a.links.now a.x c.requires, refl)
 
 pub halve-z-requires : goal.halve-z-requires
 halve-z-requires c = let l = c.loop-p in
@@ -26,7 +25,7 @@ pub loop-p-preserved : goal.loop-p-preserved
 loop-p-preserved c = let l = c.loop-p in
     let a = c.args in
     let h = c.halve-z in
-    (finding_more a.links.now a.x l.links l.y l.side l.invariant.0 _ h.result h.ensures, ap (λ k. k / 2) c.wide16-p-in-loop-p.ensures.0)
+    (finding_more a.links.now a.x l.links l.y l.side l.invariant.0 _ h.result h.ensures, refl)
 
 pub shape_of-links : goal.shape_of-links
 shape_of-links c = c.loop-p.invariant.0.halved.forest.long ∙ sym c.requires.forest.long

@@ -2,12 +2,12 @@ use mathlib.Core.Path.{◌≡◌, refl, sym, ◌∙◌, subst}
 use native.Mathlib.Omega.{arith}
 use lib.ListN.{length}
 use Rattle.counting.proofs.Bools.{clash}
-use Rattle.shading.specs.work.Work.{HasLink, TiedAll}
+use Rattle.shading.specs.work.Work.{TiedAll}
 use Rattle.shading.proofs.Ties.{tied_none, tied_more, tied_not}
 use Rattle.shading.proofs.links.unite_all.Goals as goal
 
 pub loop-e-init : goal.loop-e-init
-loop-e-init c = (omega arith, tied_none _ _ _ c.requires)
+loop-e-init c = tied_none _ _ _ c.requires
 
 pub bounds-edges-e : goal.bounds-edges-e
 bounds-edges-e c = omega (arith, c.requires.pairs)
@@ -18,14 +18,14 @@ bounds-edges-e-in-loop-e c = omega (arith, c.requires.pairs)
 pub unite-requires : goal.unite-requires
 unite-requires c = let l = c.loop-e in
     let P = c.requires in
-    let N = l.invariant.1.nodes in
+    let N = l.invariant.nodes in
     record {
       unitable = record {
-        forest = l.invariant.1.forest;
-        low_linked = subst (HasLink l.links) (sym c.wide16-u.ensures.0) (N.kept _ (P.low_linked l.e (omega arith)));
-        high_linked = subst (HasLink l.links) (sym c.wide16-v.ensures.0) (N.kept _ (P.high_linked l.e (omega arith)));
+        forest = l.invariant.forest;
+        low_linked = (N.kept _ (P.low_linked l.e (omega arith)));
+        high_linked = (N.kept _ (P.high_linked l.e (omega arith)));
       };
-      count_bound = omega (arith, c.wide16.ensures.1);
+      count_bound = omega arith;
     }
 
 pub returns-then-not-unite : goal.returns-then-not-unite
@@ -33,23 +33,21 @@ returns-then-not-unite c = let l = c.loop-e in
     let a = c.args in
     record {
       tied = λ e. clash e refl;
-      none = λ e. tied_not a.edges.now a.counts.now a.links.now l.e l.links l.invariant.1 (omega arith) _ _ _
-          c.wide16-u.ensures.0 c.wide16-v.ensures.0 c.wide16.ensures.0 _ _ c.unite.ensures c.if-not-unite.true;
+      none = λ e. tied_not a.edges.now a.counts.now a.links.now l.e l.links l.invariant (omega arith) _ _ _
+          refl refl refl _ _ c.unite.ensures c.if-not-unite.true;
     }
 
 pub loop-e-preserved : goal.loop-e-preserved
 loop-e-preserved c = let l = c.loop-e in
-    let a = c.args in (
-      omega arith,
-      tied_more a.edges.now a.counts.now a.links.now l.e l.links l.invariant.1 (omega arith) _ _ _
-          c.wide16-u.ensures.0 c.wide16-v.ensures.0 c.wide16.ensures.0 _ _ c.unite.ensures c.if-not-unite.false,
-    )
+    let a = c.args in
+    tied_more a.edges.now a.counts.now a.links.now l.e l.links l.invariant (omega arith) _ _ _
+    refl refl refl _ _ c.unite.ensures c.if-not-unite.false
 
 pub shape_of-links : goal.shape_of-links
-shape_of-links c = c.loop-e.invariant.1.forest.long ∙ sym c.requires.forest.long
+shape_of-links c = c.loop-e.invariant.forest.long ∙ sym c.requires.forest.long
 
 pub returns : goal.returns
 returns c = let l = c.loop-e in
     let a = c.args in
     let e : l.e ≡ length a.counts.now = omega arith in
-    record { tied = λ r. subst (λ k. TiedAll a.edges.now a.counts.now a.links.now k l.links) e l.invariant.1; none = λ r. clash refl r }
+    record { tied = λ r. subst (λ k. TiedAll a.edges.now a.counts.now a.links.now k l.links) e l.invariant; none = λ r. clash refl r }
