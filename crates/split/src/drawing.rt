@@ -21,14 +21,12 @@ pub fn sums_of(cells: &[u16], counts: &[u16], sides: &[u16; MOST_EDGES]) -> Cell
     let mut crossings: usize = 0;
     let mut splits: u64 = 0;
     let mut more: u64 = 0;
-    let mut c: usize = 0;
-    while c < n {
+    for c in 0..n {
         let six = cell::counts_at(counts, sides, c);
         let g = booking::gain_of(six);
         crossings += booking::crossings_in(six);
         splits += g.splits as u64;
         more += g.more;
-        c += 1;
     }
     CellSums {
         crossings,
@@ -42,15 +40,13 @@ pub(crate) fn stretch_from(counts: &[u16], sides: &[u16; MOST_EDGES], c: usize, 
     requires { c ≤ n }
     ensures { IsStretch counts.now sides.now c n result.end result.splits }
 {
-    let mut e = c;
-    while e < n {
+    for e in c..n {
         let splits = booking::gain_of(cell::counts_at(counts, sides, e)).splits;
         if splits != 0 {
             return Stretch { end: e, splits };
         }
-        e += 1;
     }
-    Stretch { end: e, splits: 0 }
+    Stretch { end: n, splits: 0 }
 }
 
 // The same where n cells make so many splits, and at once where they make none.

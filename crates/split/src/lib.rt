@@ -81,11 +81,9 @@ fn put(c: Cell, only: usize, area: &mut [u32], at: usize) -> usize
     requires only_in_bounds { at + length (all_words (triangles_with c only)) ≤ length area.old }
     ensures { Stored area.old at (all_words (triangles_with c only)) area.new result }
 {
-    let counts = c.counts;
-    let starts = c.starts;
-    let names = c.names;
-    let nodes = c.nodes;
-    direct::write_part(counts, starts, names, nodes, c.index, only, area, at)
+    direct::write_part(
+        c.counts, c.starts, c.names, c.nodes, c.index, only, area, at,
+    )
 }
 
 // Word 0 of the sub-cell with the number n.

@@ -6,13 +6,12 @@ ghost use Rattle.split.specs.work.Working.{AreOwn, label_by, LevelSix, SpiralNum
 
 use super::Spiral;
 use cell::{Cell, sum_of};
-use counting::{greatest32, least32, minus32, word16};
 
 // Half of what three counts have above the largest sum of a pair.
 fn own_at(most: u32, x: u16, y: u16, z: u16) -> u32
     ensures { result ≡ (x + y + z - most) / 2 }
 {
-    minus32(word16(x) + word16(y) + word16(z), most) / 2
+    (x as u32 + y as u32 + z as u32).saturating_sub(most) / 2
 }
 
 // The own corner triangles at each node of a cell with these counts, in which only rule 1 is met.
@@ -23,7 +22,7 @@ fn own_of(six: [u16; 6]) -> [u32; 4]
     let x = sum_of(six[0], six[5]);
     let y = sum_of(six[1], six[4]);
     let z = sum_of(six[2], six[3]);
-    let most = greatest32(greatest32(x, y), z);
+    let most = x.max(y).max(z);
     [
         own_at(most, six[0], six[1], six[2]),
         own_at(most, six[0], six[3], six[4]),
@@ -36,20 +35,20 @@ fn own_of(six: [u16; 6]) -> [u32; 4]
 fn left_of(n: u16, a: u32, b: u32) -> u32
     ensures { (result ≡ n - a - b) × (result ≤ 65535) }
 {
-    minus32(minus32(word16(n), a), b)
+    (n as u32).saturating_sub(a).saturating_sub(b)
 }
 
 // Of three numbers the least, and the one between.
 fn smallest_of(x: u32, y: u32, z: u32) -> u32
     ensures { result ≡ smallest x y z }
 {
-    least32(least32(x, y), z)
+    x.min(y).min(z)
 }
 
 fn median_of(x: u32, y: u32, z: u32) -> u32
     ensures { result ≡ median x y z }
 {
-    greatest32(least32(x, y), least32(greatest32(x, y), z))
+    x.min(y).max(x.max(y).min(z))
 }
 
 // The label of a position where r remains between the lowest node and it, for d1 and d2.
@@ -57,9 +56,12 @@ fn label_of(d1: u32, d2: u32, r: u32) -> u32
     ensures { result ≡ label_by d1 d2 r }
 {
     if r == d1 {
-        return 1;
+        1
+    } else if r == d2 {
+        2
+    } else {
+        3
     }
-    if r == d2 { 2 } else { 3 }
 }
 
 // The numbers of the cell.

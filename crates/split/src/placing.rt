@@ -14,7 +14,6 @@ use super::numbers::spiral_of;
 use super::subs::{place_of, spoke_count, sub_of};
 use super::{Spiral, word};
 use cell::Cell;
-use counting::wide32;
 use place::Place;
 use slots::position;
 
@@ -47,10 +46,12 @@ fn sub_places(c: Cell, s: Spiral, at: [Place; 4], m: u32) -> [Place; 4]
 {
     let a = new_place(c, s, at);
     let p = place_of(c, s, m);
-    let x = at[position(p, 0)];
-    let y = at[position(p, 1)];
-    let z = at[position(p, 2)];
-    [a, x, y, z]
+    [
+        a,
+        at[position(p, 0)],
+        at[position(p, 1)],
+        at[position(p, 2)],
+    ]
 }
 
 // Writes the places of the n inner crossings on the new edge from a to v, as points from `i` on, and answers the next point.
@@ -58,13 +59,11 @@ fn put_arm(a: Place, v: Place, n: u32, area: &mut [f64], i: usize) -> usize
     requires { coordinates * (i + n) ≤ length area.old }
     ensures { Stored area.old (coordinates * i) (all_numbers (values (λ h. between a v (part_of h n)) n)) area.new (coordinates * result) }
 {
-    let mut h: u32 = 0;
-    while h < n {
+    for h in 0..n {
         let p = place::interpolate(a, v, place::part_of(h, n));
-        place::store(area, i + wide32(h), p);
-        h += 1;
+        place::store(area, i + h as usize, p);
     }
-    i + wide32(n)
+    i + n as usize
 }
 
 // Writes the places of the inner crossings of a split, as points from `i` on, and answers the next point.
@@ -75,11 +74,9 @@ fn put_split(c: Cell, s: Spiral, at: [Place; 4], area: &mut [f64], i: usize) -> 
 {
     let a = new_place(c, s, at);
     let mut k = i;
-    let mut m: u32 = 0;
-    while m < 4 {
+    for m in 0..4 {
         let v = labelled_at(c, s, at, m);
         k = put_arm(a, v, spoke_count(s.larger, s.smaller, m), area, k);
-        m += 1;
     }
     k
 }
@@ -123,10 +120,7 @@ pub(crate) fn inner_in(
 fn numbers_of(at: [Place; 4]) -> [f64; 12]
     ensures { result ≡ all_numbers at }
 {
-    let p = at[0];
-    let q = at[1];
-    let r = at[2];
-    let s = at[3];
+    let [p, q, r, s] = at;
     [p.x, p.y, p.z, q.x, q.y, q.z, r.x, r.y, r.z, s.x, s.y, s.z]
 }
 
@@ -134,15 +128,9 @@ fn numbers_of(at: [Place; 4]) -> [f64; 12]
 fn by_position(c: Cell) -> Cell
     ensures { result ≡ positioned c }
 {
-    let counts = c.counts;
-    let starts = c.starts;
-    let names = c.names;
     Cell {
-        counts,
-        starts,
-        names,
         nodes: [0, 1, 2, 3],
-        index: c.index,
+        ..c
     }
 }
 

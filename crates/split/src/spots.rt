@@ -15,7 +15,6 @@ use super::numbers::spiral_of;
 use super::placing::{centres_in, inner_in};
 use super::{Extra, FIRST_CROSSING, FIRST_FACE, PointSums, Stretch};
 use cell::Cell;
-use counting::long32;
 use place::Place;
 use slots::{MOST_EDGES, MOST_SLOTS};
 
@@ -28,7 +27,7 @@ fn spots_of(c: Cell, splits: u32) -> PointSums
 {
     let s = spiral_of(c);
     let g = booking::figures_of(s.larger as u16, s.smaller as u16);
-    let loops = long32(g.end);
+    let loops = g.end as u64;
     PointSums {
         inner: g.inner,
         more: (g.triangles - 8 * loops - 2 * g.inner) / 6,
@@ -74,12 +73,10 @@ pub fn extra_of(
     let n = cell::drawn(cells);
     let mut inner: u64 = 0;
     let mut fans: u64 = 0;
-    let mut c: usize = 0;
-    while c < n {
+    for c in 0..n {
         let p = spots_at(cells, counts, names, sides, starts, c);
         inner += p.inner;
         fans += p.more;
-        c += 1;
     }
     Extra { inner, fans }
 }
@@ -88,15 +85,11 @@ pub fn extra_of(
 fn corners_of(c: Cell, nodes: &[f64]) -> [Place; 4]
     ensures { result ≡ corners_of nodes.now c }
 {
-    let w = c.nodes[0];
-    let x = c.nodes[1];
-    let y = c.nodes[2];
-    let z = c.nodes[3];
     [
-        place::load(nodes, w as usize),
-        place::load(nodes, x as usize),
-        place::load(nodes, y as usize),
-        place::load(nodes, z as usize),
+        place::load(nodes, c.nodes[0] as usize),
+        place::load(nodes, c.nodes[1] as usize),
+        place::load(nodes, c.nodes[2] as usize),
+        place::load(nodes, c.nodes[3] as usize),
     ]
 }
 
@@ -105,10 +98,7 @@ fn fits(room: usize, i: usize, n: u64) -> bool
     ensures { result ≡ leb (coordinates * i + coordinates * n) room }
 {
     let all = room / 3;
-    if all < i {
-        return false;
-    }
-    n <= (all - i) as u64
+    i <= all && n <= (all - i) as u64
 }
 
 // Writes the places of the inner crossings of the cell, in which so many splits are made, as points from i on, where they have room there, and answers
@@ -219,12 +209,10 @@ pub fn write_inner(
 {
     let n = cell::drawn(cells);
     let mut i = at;
-    let mut c: usize = 0;
-    while c < n {
+    for c in 0..n {
         let splits = booking::gain_of(cell::counts_at(counts, sides, c)).splits;
         let v = cell::cell_at(cells, counts, names, sides, starts, c);
         i = put_inner(v, splits, nodes, area, i);
-        c += 1;
     }
     i
 }

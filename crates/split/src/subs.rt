@@ -13,7 +13,6 @@ ghost use Rattle.split.specs.work.Working.{Spiraling, spoke_by};
 
 use super::Spiral;
 use cell::Cell;
-use counting::{greatest32, least32, minus32, wide32, word16};
 use slots::{high_end, low_end, lower_end, position, upper_end};
 
 // The edge that joins two positions or labels.
@@ -21,12 +20,13 @@ fn joining_of(a: u32, b: u32) -> u32
     requires { (a < 4) × (b < 4) × (a ≡ b → ⊥) }
     ensures { (result ≡ joining a b) × (result < 6) }
 {
-    let x = least32(a, b);
-    let y = greatest32(a, b);
-    if x == 0 {
-        return y - 1;
+    let x = a.min(b);
+    let y = a.max(b);
+    match x {
+        0 => y - 1,
+        1 => y + 1,
+        _ => 5,
     }
-    if x == 1 { y + 1 } else { 5 }
 }
 
 // The edge of the cell that is edge j of slot p.
@@ -34,8 +34,8 @@ fn slot_edge(p: usize, j: u32) -> usize
     requires { (p < 4) × (j < 3) }
     ensures { (result ≡ slot_edge p j) × (result < 6) }
 {
-    let a = position(p, wide32(lower_end(j)));
-    let b = position(p, wide32(upper_end(j)));
+    let a = position(p, lower_end(j) as usize);
+    let b = position(p, upper_end(j) as usize);
     joining_of(a as u32, b as u32) as usize
 }
 
@@ -44,26 +44,24 @@ pub(crate) fn spoke_count(d1: u32, d2: u32, l: u32) -> u32
     requires { (l < 4) × (d1 + d2 ≤ 65535) }
     ensures { result ≡ spoke_by d1 d2 l }
 {
-    if l == 0 {
-        return 2 * d2;
+    match l {
+        0 => 2 * d2,
+        1 => d1,
+        2 => d2,
+        _ => d1.saturating_sub(d2),
     }
-    if l == 1 {
-        return d1;
-    }
-    if l == 2 { d2 } else { minus32(d1, d2) }
 }
 
 fn spokes_before(d1: u32, d2: u32, l: u32) -> u32
     requires { (l < 4) × (d1 + d2 ≤ 65535) }
     ensures { (result ≡ pre (spoke_by d1 d2) l) × (result ≤ 262140) }
 {
-    if l == 0 {
-        return 0;
+    match l {
+        0 => 0,
+        1 => 2 * d2,
+        2 => 2 * d2 + d1,
+        _ => 3 * d2 + d1,
     }
-    if l == 1 {
-        return 2 * d2;
-    }
-    if l == 2 { 2 * d2 + d1 } else { 3 * d2 + d1 }
 }
 
 // The count of the new edge to position p.
@@ -90,10 +88,9 @@ fn rest_count(c: Cell, s: Spiral, six: [u16; 6], e: usize) -> u16
     requires e_bound { (e < 6) × (six ≡ values (count_of c) 6) }
     ensures { result ≡ rest_count c e }
 {
-    let n = six[e];
     let a = s.own[low_end(e)];
     let b = s.own[high_end(e)];
-    minus32(minus32(word16(n), a), b) as u16
+    (six[e] as u32).saturating_sub(a).saturating_sub(b) as u16
 }
 
 fn rest_start(c: Cell, s: Spiral, e: usize) -> u32
@@ -123,12 +120,14 @@ pub(crate) fn place_of(c: Cell, s: Spiral, m: u32) -> usize
     ensures { (result ≡ labelled (count_of c) m) × (result < 4) }
 {
     if s.label[1] == m {
-        return 1;
+        1
+    } else if s.label[2] == m {
+        2
+    } else if s.label[3] == m {
+        3
+    } else {
+        0
     }
-    if s.label[2] == m {
-        return 2;
-    }
-    if s.label[3] == m { 3 } else { 0 }
 }
 
 // The counts, first numbers and names of the sub-cell that omits position p.

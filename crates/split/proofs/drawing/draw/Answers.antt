@@ -3,9 +3,6 @@ use Rattle.booking.proofs.Totals.{all_most}
 use Rattle.split.proofs.Tables.{splits_all, drawn_long}
 use Rattle.split.proofs.drawing.draw.Goals as goal
 
-pub sums_of-s-requires : goal.sums_of-s-requires
-sums_of-s-requires c = tt
-
 pub draw_all-triangles-requires : goal.draw_all-triangles-requires
 draw_all-triangles-requires c = c.sums_of-s.ensures
 

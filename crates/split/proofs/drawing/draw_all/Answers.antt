@@ -6,9 +6,6 @@ use Rattle.split.proofs.Tables.{drawn_long}
 use Rattle.split.proofs.drawing.draw_all.Goals as goal
 use Rattle.split.proofs.drawing.draw_all.Goals.{then-area-s+else-area-t, else-area-s}
 
-pub count_all-requires : goal.count_all-requires
-count_all-requires c = tt
-
 pub returns-then-area-t : goal.returns-then-area-t
 returns-then-area-t c = let A = c.args in
     let G = c.requires in

@@ -5,9 +5,6 @@ use Rattle.split.specs.Parts.{drawn_triangles}
 use Rattle.split.proofs.Tables.{splits_drawable}
 use Rattle.split.proofs.drawing.put_at.Goals as goal
 
-pub cell_at-v-requires : goal.cell_at-v-requires
-cell_at-v-requires c = tt
-
 pub put_cell-requires : goal.put_cell-requires
 put_cell-requires c = let A = c.args in
     let P = c.requires in

@@ -7,9 +7,6 @@ use Rattle.split.specs.work.Gains.{splits_at}
 use Rattle.split.proofs.Tables.{drawn_at, next_room, stretch_room, stretch_written, all_written}
 use Rattle.split.proofs.drawing.put_cells.Goals as goal
 
-pub drawn-n-requires : goal.drawn-n-requires
-drawn-n-requires c = tt
-
 pub loop-c-init : goal.loop-c-init
 unfolding over
 loop-c-init c = (omega arith, stored_none _ 0)

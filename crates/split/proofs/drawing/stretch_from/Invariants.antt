@@ -1,10 +1,7 @@
-use Prim.Native.Nat.{ℕ, ◌-◌, ◌≤◌, ◌<◌}
+use Prim.Native.Nat.{ℕ, ◌≤◌, ◌<◌}
 use mathlib.Core.Path.{◌≡◌}
 use Rattle.split.specs.work.Gains.{splits_at}
 use Rattle.split.proofs.drawing.stretch_from.Given as goal
 
 abbrev pub invariant-loop-e : goal.invariant-loop-e
-invariant-loop-e l = (l.c ≤ l.e) × (l.e ≤ l.n) × ((k : ℕ) → l.c ≤ k → k < l.e → splits_at l.counts l.sides k ≡ 0)
-
-abbrev pub decreases-loop-e : goal.decreases-loop-e
-decreases-loop-e l = l.n - l.e
+invariant-loop-e l = (k : ℕ) → l.c ≤ k → k < l.e → splits_at l.counts l.sides k ≡ 0

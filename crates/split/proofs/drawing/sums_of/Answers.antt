@@ -5,28 +5,25 @@ use Rattle.split.proofs.Few.{at_few, at_more, gain_at, crossings-at}
 use Rattle.split.proofs.drawing.sums_of.Goals as goal
 
 pub loop-c-init : goal.loop-c-init
-loop-c-init c = (omega arith, summed_none _ _, summed_none _ _, summed_none _ _)
+loop-c-init c = (summed_none _ _, summed_none _ _, summed_none _ _)
 
 pub overflow_add-crossings : goal.overflow_add-crossings
 overflow_add-crossings c = let A = c.args in
     let L = c.loop-c in
     let x = crossings-at A.counts.now A.sides.now L.c c.counts_at-six.ensures c.crossings_in-crossings.ensures.0 in
-    omega (arith, x, table_most A.counts.now A.sides.now L.c, L.invariant.1.few, c.drawn-n.ensures)
+    omega (arith, x, table_most A.counts.now A.sides.now L.c, L.invariant.0.few, c.drawn-n.ensures)
 
 pub overflow_add-splits : goal.overflow_add-splits
 overflow_add-splits c = let A = c.args in
     let L = c.loop-c in
     let g = gain_at A.counts.now A.sides.now L.c c.counts_at-six.ensures c.gain_of-g.ensures in
-    omega (arith, g, at_few A.counts.now A.sides.now L.c, L.invariant.2.few, c.drawn-n.ensures)
+    omega (arith, g, at_few A.counts.now A.sides.now L.c, L.invariant.1.few, c.drawn-n.ensures)
 
 pub overflow_add-more : goal.overflow_add-more
 overflow_add-more c = let A = c.args in
     let L = c.loop-c in
     let g = gain_at A.counts.now A.sides.now L.c c.counts_at-six.ensures c.gain_of-g.ensures in
-    omega (arith, g, at_more A.counts.now A.sides.now L.c, L.invariant.3.few, c.drawn-n.ensures)
-
-pub overflow_add-c : goal.overflow_add-c
-overflow_add-c c = omega (arith, c.loop-c.invariant.0, c.drawn-n.ensures)
+    omega (arith, g, at_more A.counts.now A.sides.now L.c, L.invariant.2.few, c.drawn-n.ensures)
 
 pub loop-c-preserved : goal.loop-c-preserved
 loop-c-preserved c = let A = c.args in
@@ -34,20 +31,19 @@ loop-c-preserved c = let A = c.args in
     let e = c.counts_at-six.ensures in
     let g = gain_at A.counts.now A.sides.now L.c e c.gain_of-g.ensures in
     let x = crossings-at A.counts.now A.sides.now L.c e c.crossings_in-crossings.ensures.0 in (
-      omega arith,
-      summed_more _ _ L.invariant.1 _ x (omega (arith, x, table_most A.counts.now A.sides.now L.c)),
-      summed_more _ _ L.invariant.2 _ g.0 (omega (arith, g, at_few A.counts.now A.sides.now L.c)),
-      summed_more _ _ L.invariant.3 _ g.1 (omega (arith, g, at_more A.counts.now A.sides.now L.c)),
+      summed_more _ _ L.invariant.0 _ x (omega (arith, x, table_most A.counts.now A.sides.now L.c)),
+      summed_more _ _ L.invariant.1 _ g.0 (omega (arith, g, at_few A.counts.now A.sides.now L.c)),
+      summed_more _ _ L.invariant.2 _ g.1 (omega (arith, g, at_more A.counts.now A.sides.now L.c)),
     )
 
 pub returns : goal.returns
 returns c = let I = c.loop-c.invariant in
     let d = c.drawn-n.ensures in
     record {
-      crossings_are = summed_all _ _ I.1 (omega (arith, d));
-      splits_are = summed_all _ _ I.2 (omega (arith, d));
-      more_is = summed_all _ _ I.3 (omega (arith, d));
-      few_crossings = omega (arith, I.1.few, d);
-      few-splits = omega (arith, I.2.few, d);
-      few_more = omega (arith, I.3.few, d);
+      crossings_are = summed_all _ _ I.0 (omega (arith, d));
+      splits_are = summed_all _ _ I.1 (omega (arith, d));
+      more_is = summed_all _ _ I.2 (omega (arith, d));
+      few_crossings = omega (arith, I.0.few, d);
+      few-splits = omega (arith, I.1.few, d);
+      few_more = omega (arith, I.2.few, d);
     }

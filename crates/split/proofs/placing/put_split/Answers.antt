@@ -10,7 +10,7 @@ pub new_place-a-requires : goal.new_place-a-requires
 new_place-a-requires c = c.requires.spiraling
 
 pub loop-m-init : goal.loop-m-init
-loop-m-init c = let A = c.args in (omega arith, arms_none (count_of A.c) A.at A.area.now A.i)
+loop-m-init c = let A = c.args in arms_none (count_of A.c) A.at A.area.now A.i
 
 pub labelled_at-v-requires : goal.labelled_at-v-requires
 labelled_at-v-requires c = record { spiraling = c.requires.spiraling; m_bound = omega arith }
@@ -21,20 +21,18 @@ spoke_count-requires c = (omega arith, omega (arith, sum_few c.requires.spiralin
 pub put_arm-k-requires : goal.put_arm-k-requires
 put_arm-k-requires c = let A = c.args in
     let L = c.loop-m in
-    arms_room (count_of A.c) A.at A.i L.k L.m L.invariant.1 (omega arith) c.requires.at_in_bounds (c.spoke_count.ensures ∙ spokes_told c.requires.spiraling.numbers L.m)
+    arms_room (count_of A.c) A.at A.i L.k L.m L.invariant (omega arith) c.requires.at_in_bounds (c.spoke_count.ensures ∙ spokes_told c.requires.spiraling.numbers L.m)
 
 pub loop-m-preserved : goal.loop-m-preserved
 loop-m-preserved c = let A = c.args in
-    let L = c.loop-m in (
-      omega arith,
-      arms_more (count_of A.c) A.at A.i L.k L.m L.invariant.1 c.new_place-a.ensures c.labelled_at-v.ensures
-          (c.spoke_count.ensures ∙ spokes_told c.requires.spiraling.numbers L.m) c.put_arm-k.ensures,
-    )
+    let L = c.loop-m in
+    arms_more (count_of A.c) A.at A.i L.k L.m L.invariant c.new_place-a.ensures c.labelled_at-v.ensures
+    (c.spoke_count.ensures ∙ spokes_told c.requires.spiraling.numbers L.m) c.put_arm-k.ensures
 
 pub shape_of-area : goal.shape_of-area
-shape_of-area c = stored_long c.loop-m.invariant.1
+shape_of-area c = stored_long c.loop-m.invariant
 
 pub returns : goal.returns
 returns c = let A = c.args in
     let L = c.loop-m in
-    arms_all (count_of A.c) A.at A.i L.invariant.1 (omega arith)
+    arms_all (count_of A.c) A.at A.i L.invariant (omega arith)

@@ -1,10 +1,6 @@
-use Prim.Native.Nat.{◌-◌, ◌≤◌}
 use Rattle.counting.specs.work.Stored.{Summed}
 use Rattle.split.specs.work.Spots.{most_inner, inner_in, added_in}
 use Rattle.split.proofs.spots.extra_of.Given as goal
 
 abbrev pub invariant-loop-c : goal.invariant-loop-c
-invariant-loop-c l = (l.c ≤ l.n) × Summed (inner_in l.counts l.sides) most_inner l.c l.inner × Summed (added_in l.counts l.sides) most_inner l.c l.fans
-
-abbrev pub decreases-loop-c : goal.decreases-loop-c
-decreases-loop-c l = l.n - l.c
+invariant-loop-c l = Summed (inner_in l.counts l.sides) most_inner l.c l.inner × Summed (added_in l.counts l.sides) most_inner l.c l.fans

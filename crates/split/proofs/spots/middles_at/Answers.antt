@@ -6,9 +6,6 @@ use Rattle.split.specs.work.Spots.{points_stored}
 use Rattle.split.proofs.Tables.{splits_drawable}
 use Rattle.split.proofs.spots.middles_at.Goals as goal
 
-pub cell_at-v-requires : goal.cell_at-v-requires
-cell_at-v-requires c = tt
-
 pub put_middles-requires : goal.put_middles-requires
 put_middles-requires c = let A = c.args in splits_drawable A.cells.now A.counts.now A.names.now A.sides.now A.starts.now A.c c.cell_at-v.ensures c.requires
 

@@ -13,13 +13,13 @@ pub overflow_cast-s-2 : goal.overflow_cast-s-2
 overflow_cast-s-2 c = let D = c.requires in omega (arith, numbers_most D.drawable D.splits_nonzero c.spiral_of-s.ensures)
 
 pub overflow_sub-result : goal.overflow_sub-result
-overflow_sub-result c = let D = c.requires in omega (arith, c.long32-loops.ensures.0, figures_fit D.drawable D.splits_nonzero c.spiral_of-s.ensures c.figures_of-g.ensures)
+overflow_sub-result c = let D = c.requires in omega (arith, figures_fit D.drawable D.splits_nonzero c.spiral_of-s.ensures c.figures_of-g.ensures)
 
 pub overflow_mul-result-2 : goal.overflow_mul-result-2
 overflow_mul-result-2 c = let D = c.requires in omega (arith, figures_few D.drawable D.splits_nonzero c.spiral_of-s.ensures c.figures_of-g.ensures)
 
 pub overflow_sub-result-2 : goal.overflow_sub-result-2
-overflow_sub-result-2 c = let D = c.requires in omega (arith, c.long32-loops.ensures.0, figures_fit D.drawable D.splits_nonzero c.spiral_of-s.ensures c.figures_of-g.ensures)
+overflow_sub-result-2 c = let D = c.requires in omega (arith, figures_fit D.drawable D.splits_nonzero c.spiral_of-s.ensures c.figures_of-g.ensures)
 
 pub returns : goal.returns
-returns c = let D = c.requires in spots_are D.drawable D.splits_nonzero c.spiral_of-s.ensures c.figures_of-g.ensures c.long32-loops.ensures.0 refl
+returns c = let D = c.requires in spots_are D.drawable D.splits_nonzero c.spiral_of-s.ensures c.figures_of-g.ensures refl refl

@@ -4,14 +4,8 @@ use Rattle.split.specs.work.Spots.{middles_at_cell}
 use Rattle.split.proofs.Spotted.{cells_none, cells_more, cells_long, cells_all, stretch_middles}
 use Rattle.split.proofs.spots.write_drawn_middles.Goals as goal
 
-pub drawn-n-requires : goal.drawn-n-requires
-drawn-n-requires c = tt
-
 pub loop-c-init : goal.loop-c-init
 loop-c-init c = let A = c.args in (omega arith, cells_none (middles_at_cell A.cells.now A.counts.now A.names.now A.sides.now A.starts.now A.nodes.now) A.area.now A.at)
-
-pub middles_stretch-i-requires : goal.middles_stretch-i-requires
-middles_stretch-i-requires c = tt
 
 pub shape_of-area-then-s-eq0 : goal.shape_of-area-then-s-eq0
 shape_of-area-then-s-eq0 c = let A = c.args in

@@ -1,10 +1,6 @@
-use Prim.Native.Nat.{◌-◌, ◌≤◌}
 use mathlib.Core.Path.{◌≡◌}
 use Rattle.split.specs.work.Spots.{cells_stored, inner_at_cell}
 use Rattle.split.proofs.spots.write_inner.Given as goal
 
 abbrev pub invariant-loop-c : goal.invariant-loop-c
-invariant-loop-c l = (l.c ≤ l.n) × ((l.area, l.i) ≡ cells_stored (inner_at_cell l.cells l.counts l.names l.sides l.starts l.nodes) l.initial.area l.at l.c)
-
-abbrev pub decreases-loop-c : goal.decreases-loop-c
-decreases-loop-c l = l.n - l.c
+invariant-loop-c l = (l.area, l.i) ≡ cells_stored (inner_at_cell l.cells l.counts l.names l.sides l.starts l.nodes) l.initial.area l.at l.c

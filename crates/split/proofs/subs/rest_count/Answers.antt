@@ -9,7 +9,7 @@ use Rattle.split.proofs.subs.rest_count.Goals as goal
 pub returns : goal.returns
 returns c = let a = c.args in
     let p = c.requires in
-    let n = c.word16.ensures.0 ∙ ap (λ l. get_or l a.e 0) p.e_bound.1 ∙ values_at (count_of a.c) 6 a.e 0 p.e_bound.0 in
+    let n = ap (λ l. get_or l a.e 0) p.e_bound.1 ∙ values_at (count_of a.c) 6 a.e 0 p.e_bound.0 in
     let o = ap (λ k. get_or a.s.own k 0) c.low_end.ensures.0 in
     let u = ap (λ k. get_or a.s.own k 0) c.high_end.ensures.0 in
-    c.minus32-2.ensures ∙ ap₂ ◌-◌ (c.minus32.ensures ∙ ap₂ ◌-◌ n o) u ∙ rest_told p.spiraling a.e p.e_bound.0
+    c.saturating_sub-2.ensures ∙ ap₂ ◌-◌ (c.saturating_sub.ensures ∙ ap₂ ◌-◌ n o) u ∙ rest_told p.spiraling a.e p.e_bound.0
