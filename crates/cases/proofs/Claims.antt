@@ -3,6 +3,7 @@ use Prim.Native.Nat.{ℕ, ◌+◌}
 use mathlib.Core.Path.{◌≡◌, refl, sym, ap, ◌∙◌}
 use mathlib.Core.Bool.{Bool, true, false}
 use mathlib.Core.List.{List, [], ◌∷◌}
+use Rattle.std.specs.Prelude.{Option, Some, None}
 use native.Mathlib.Omega.{arith}
 use lib.Dec.{ltb}
 use lib.ListN.{length}
@@ -23,7 +24,7 @@ use Rattle.cell.specs.Triangles.{loop_count, triangle_count, cell_triangles}
 use Rattle.cell.specs.claims.Table.{taken_counts, table_cell, drawn_cells, table_triangles}
 use Rattle.cell.proofs.Taken.{cell-count}
 use Rattle.cell.proofs.Values.{taken_is}
-use Rattle.cases.specs.declared.Case.TheVariants.{Common, Outside}
+use Rattle.cases.specs.declared.Case.{Case}
 use Rattle.cases.specs.claims.Cases.{entries, entry_of}
 use Rattle.cases.specs.Answer.{lone_edges, case_numbers, case_answer}
 use Rattle.cases.specs.claims.Table.{table_rows, table}
@@ -34,11 +35,14 @@ use Rattle.cases.proofs.Digits.{entry_lt, digits_common, digits_number}
 use Rattle.cases.proofs.Table.{loops_alone, triangles_alone}
 use Rattle.cases.proofs.Laid as laid
 
+same_case : (l t m u : ℕ) → result_of (l ∷ t ∷ []) ≡ result_of (m ∷ u ∷ []) → ◌≡◌ {A = Option Case} (Some (record { loops = l; triangles = t })) (Some (record { loops = m; triangles = u }))
+same_case l t m u e = cc
+
 pub one-to-one : OneToOne
-one-to-one (Common l t) (Common m u) e = cc
-one-to-one (Common l t) Outside e = absurd (no_nil {a = l} {l = t ∷ []} (cc))
-one-to-one Outside (Common m u) e = absurd (no_nil {a = m} {l = u ∷ []} (cc))
-one-to-one Outside Outside e = refl
+one-to-one (Some c) (Some d) e = same_case c.loops c.triangles d.loops d.triangles e
+one-to-one (Some c) None e = absurd (no_nil {a = c.loops} {l = c.triangles ∷ []} (cc))
+one-to-one None (Some c) e = absurd (no_nil {a = c.loops} {l = c.triangles ∷ []} (cc))
+one-to-one None None e = refl
 
 pub table_length : TableLength
 unfolding over table_rows table
@@ -117,6 +121,6 @@ answer_right c l t e = go (is_common w) e
     same : (loop_count (edges_of c) ≡ loop_count (lone_edges w)) × (triangle_count (edges_of c) ≡ triangle_count (lone_edges w))
     same = laid_anyhow (edges_of c) (lone_edges w) (λ k _. refl)
 
-    go : (b : Bool) → case_numbers (Common l t) ≡ pick b (result_of (loop_count (lone_edges w) ∷ triangle_count (lone_edges w) ∷ [])) (result_of []) → (length (leasts (edges_of c)) ≡ l) × (length (cell_triangles c) ≡ t)
+    go : (b : Bool) → case_numbers (Some (record { loops = l; triangles = t })) ≡ pick b (result_of (loop_count (lone_edges w) ∷ triangle_count (lone_edges w) ∷ [])) (result_of []) → (length (leasts (edges_of c)) ≡ l) × (length (cell_triangles c) ≡ t)
     go true f = (same.0 ∙ cc, cell-count c ∙ same.1 ∙ cc)
     go false f = absurd (no_nil {a = l} {l = t ∷ []} (cc))

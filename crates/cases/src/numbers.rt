@@ -6,7 +6,6 @@ ghost use Rattle.cases.specs.claims.Cases.{entries};
 ghost use Rattle.cases.specs.work.Tally.{triangles_for, most_for};
 
 use super::ENTRIES;
-use counting::{wide8, wide16};
 
 // So many entries to a row.
 const IN_ROW: usize = 9;
@@ -120,10 +119,8 @@ pub fn triangles_in(cells: &[u16; ENTRIES]) -> usize
 {
     let rows = table_rows();
     let mut t: usize = 0;
-    let mut n: usize = 0;
-    while n < ENTRIES {
-        t += wide16(cells[n]) * wide8(rows[n / IN_ROW][2 * (n % IN_ROW) + 1]);
-        n += 1;
+    for n in 0..ENTRIES {
+        t += cells[n] as usize * rows[n / IN_ROW][2 * (n % IN_ROW) + 1] as usize;
     }
     t
 }

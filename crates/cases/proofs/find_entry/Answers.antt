@@ -1,5 +1,5 @@
 use Prim.Native.Nat.{ℕ, ◌≤◌, ◌<◌}
-use mathlib.Core.Path.{◌≡◌, sym, ◌∙◌}
+use mathlib.Core.Path.{◌≡◌, refl, sym, ◌∙◌}
 use mathlib.Core.Bool.{true}
 use mathlib.Core.List.{List}
 use native.Mathlib.Omega.{arith}
@@ -9,29 +9,26 @@ use Rattle.cases.specs.claims.Cases.{entries, from_digits}
 use Rattle.cases.proofs.Digits.{digits_none, digits_more, digits_lt, found_in, found_out}
 use Rattle.cases.proofs.find_entry.Goals as goal
 
-bound : (l : List ℕ) (n k : ℕ) → (k ≤ 6) × (is_common (by_edge l) ≡ true) × (n ≡ from_digits (by_edge l) k) → n < entries
-bound l n k I = omega (arith, I.2, digits_lt (by_edge l) I.1 k I.0)
+bound : (l : List ℕ) (n k : ℕ) → k ≤ 6 → (is_common (by_edge l) ≡ true) × (n ≡ from_digits (by_edge l) k) → n < entries
+bound l n k h I = omega (arith, I.1, digits_lt (by_edge l) I.0 k h)
 
-pub is_common-requires : goal.is_common-requires
-is_common-requires c = tt
+pub returns-then-not-is_common-clause-place : goal.returns-then-not-is_common-clause-place
+returns-then-not-is_common-clause-place c = found_out (by_edge c.args.counts) (sym c.is_common.ensures ∙ c.if-not-is_common.true)
 
-pub returns-then-not-is_common : goal.returns-then-not-is_common
-returns-then-not-is_common c = (found_out (by_edge c.args.counts) (sym c.is_common.ensures ∙ c.if-not-is_common.true), omega arith)
-
-pub loop-k-init : goal.loop-k-init
-loop-k-init c = (omega arith, sym c.is_common.ensures ∙ c.if-not-is_common.false, digits_none (by_edge c.args.counts))
+pub loop-count-init : goal.loop-count-init
+loop-count-init c = (sym c.is_common.ensures ∙ c.if-not-is_common.false, digits_none (by_edge c.args.counts))
 
 pub overflow_mul-n : goal.overflow_mul-n
-overflow_mul-n c = omega (arith, bound c.args.counts c.loop-k.n c.loop-k.k c.loop-k.invariant)
-
-pub wide16-requires : goal.wide16-requires
-wide16-requires c = tt
+overflow_mul-n c = omega (arith, bound c.args.counts c.loop-count.n c.loop-count.count-index (omega arith) c.loop-count.invariant)
 
 pub overflow_add-n : goal.overflow_add-n
-overflow_add-n c = omega (arith, bound c.args.counts c.loop-k.n c.loop-k.k c.loop-k.invariant, c.wide16.ensures.1)
+overflow_add-n c = omega (arith, bound c.args.counts c.loop-count.n c.loop-count.count-index (omega arith) c.loop-count.invariant)
 
-pub loop-k-preserved : goal.loop-k-preserved
-loop-k-preserved c = let l = c.args.counts in let I = c.loop-k.invariant in (omega arith, I.1, digits_more (by_edge l) c.loop-k.k c.loop-k.n c.wide16.result I.2 c.wide16.ensures.0)
+pub loop-count-preserved : goal.loop-count-preserved
+loop-count-preserved c = let I = c.loop-count.invariant in (I.0, digits_more (by_edge c.args.counts) c.loop-count.count-index c.loop-count.n _ I.1 refl)
 
-pub returns : goal.returns
-returns c = let l = c.args.counts in let I = c.loop-k.invariant in (found_in (by_edge l) I.1 c.loop-k.n c.loop-k.k I.2 (omega (arith, I.0)), omega (arith, bound l c.loop-k.n c.loop-k.k I))
+pub returns-clause-place : goal.returns-clause-place
+returns-clause-place c = let I = c.loop-count.invariant in found_in (by_edge c.args.counts) I.0 c.loop-count.n c.loop-count.count-index I.1 (omega arith)
+
+pub returns-clause-within : goal.returns-clause-within
+returns-clause-within c = bound c.args.counts c.loop-count.n c.loop-count.count-index (omega arith) c.loop-count.invariant

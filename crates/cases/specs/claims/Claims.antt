@@ -1,5 +1,5 @@
 -- What is proved of the table.
-use Rattle.std.specs.Prelude.{ℕ, ◌+◌, ◌*◌, ◌<◌, ◌≡◌, true, List, eqb, get_or, length}
+use Rattle.std.specs.Prelude.{ℕ, ◌+◌, ◌*◌, ◌<◌, ◌≡◌, true, Option, Some, List, eqb, get_or, length}
 use Rattle.counting.specs.Lists.{total}
 use Rattle.counting.specs.Search.{count}
 use Rattle.cell.specs.declared.Cell.{Cell}
@@ -10,15 +10,14 @@ use Rattle.cell.specs.Loop.{leasts}
 use Rattle.cell.specs.Triangles.{loop_count, triangle_count, cell_triangles}
 use Rattle.cell.specs.claims.Table.{drawn_cells, table_triangles}
 use Rattle.cases.specs.declared.Case.{Case}
-use Rattle.cases.specs.declared.Case.TheVariants.{Common}
 use Rattle.cases.specs.claims.Cases.{entries, entry_of}
 use Rattle.cases.specs.claims.Table.{table}
 use Rattle.cases.specs.Answer.{case_numbers, case_answer}
 use Rattle.cases.specs.claims.Tally.{triangles_at, find_entry_at, outside_at}
 
--- the reading of the answer in numbers is one to one, so that the numbers determine the enum
+-- the reading of the answer in numbers is one to one, so that the numbers determine the answer
 abbrev pub OneToOne : Type 0
-OneToOne = (j k : Case) → case_numbers j ≡ case_numbers k → j ≡ k
+OneToOne = (j k : Option Case) → case_numbers j ≡ case_numbers k → j ≡ k
 
 -- two numbers to an entry
 abbrev pub TableLength : Type 0
@@ -48,7 +47,7 @@ CellsRight = (c : Cell) → is_common (count_of c) ≡ true
 
 -- and so is what is answered for its counts
 abbrev pub AnswerRight : Type 0
-AnswerRight = (c : Cell) (l t : ℕ) → case_numbers (Common l t) ≡ case_answer (count_of c) → (length (leasts (edges_of c)) ≡ l) × (length (cell_triangles c) ≡ t)
+AnswerRight = (c : Cell) (l t : ℕ) → case_numbers (Some (record { loops = l; triangles = t })) ≡ case_answer (count_of c) → (length (leasts (edges_of c)) ≡ l) × (length (cell_triangles c) ≡ t)
 
 -- the triangles of all cells of a grid's tables: the number of cells times triangles, entry by entry, and those of the cells outside
 abbrev pub TotalByEntry : Type 0
