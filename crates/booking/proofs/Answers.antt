@@ -1,25 +1,25 @@
 -- The booking from the count of fans.
 use Prim.Native.Nat.{ℕ, ◌+◌, ◌≤◌, ◌<◌}
-use mathlib.Core.Path.{◌≡◌, refl, sym, ap, ◌∙◌, subst}
+use mathlib.Core.Path.{◌≡◌, refl, sym, ap, ◌∙◌}
 use mathlib.Core.Bool.{Bool, true, false}
 use mathlib.Core.List.{[], ◌∷◌}
+use Rattle.std.specs.Prelude.{Some, None}
 use native.Mathlib.Omega.{arith}
 use Rattle.counting.specs.Pick.{pick}
 use Rattle.answer.specs.Answer.{result_of}
-use Rattle.answer.proofs.Answer.{no_nil}
 use Rattle.slots.specs.Slots.{edge_between}
 use Rattle.cell.specs.Nodes.{joining}
 use Rattle.cell.specs.Level.{is_level_cell}
 use Rattle.booking.specs.declared.Gain.{Gain}
 use Rattle.booking.specs.declared.Fans.{Fans}
-use Rattle.booking.specs.declared.Fans.TheVariants.{Counted, WalkIt}
 use Rattle.booking.specs.Figures.{are_split}
-use Rattle.booking.specs.Booking.{smallest, median, left_between, beside_drawn, corner_triangles, larger, smaller, booked_split}
-use Rattle.booking.specs.claims.Booking.{booked, splits_by, more_by, splits_in, more_in}
+use Rattle.booking.specs.Booking.{smallest, median, left_between, beside_drawn, larger, smaller, booked_split}
+use Rattle.booking.specs.claims.Booking.{splits_by, more_by, splits_in, more_in}
 use Rattle.booking.specs.work.Fans.{fans_numbers, fans_answer}
 use Rattle.booking.specs.Answer.{booking_answer}
-use Rattle.booking.specs.work.Sums.{most_number, FewFans, GainBy, GainIn}
+use Rattle.booking.specs.work.Sums.{GainBy, GainIn}
 use Rattle.booking.proofs.Drawn.{split_least}
+use Rattle.booking.proofs.Levels.{counted, uncounted}
 
 -- three numbers of which the least is 2 or more, and the one between 4 or more
 all_least : (x y z : ℕ) → 2 ≤ smallest x y z → (2 ≤ x) × (2 ≤ y) × (2 ≤ z)
@@ -59,49 +59,21 @@ module _ (w : ℕ → ℕ) (few : w 0 + w 1 + w 2 < 10) where
       none true = refl
       none false = refl
 
-module _ {j : Fans} where
-  pub few_from : {t x y n : ℕ} → j ≡ Counted t x y n → FewFans j → (y ≤ x) × (x ≤ most_number)
-  few_from e h = let (a, b, d) = subst FewFans e h in (b, d)
+module _ (w : ℕ → ℕ) where
+  pub walk_from : fans_numbers None ≡ fans_answer w → result_of [] ≡ booking_answer w
+  unfolding booking_answer
+  walk_from told = rw (uncounted w told) refl
 
-  module _ (w : ℕ → ℕ) (told : fans_numbers j ≡ fans_answer w) where
-    pub walk_from : j ≡ WalkIt → result_of [] ≡ booking_answer w
-    unfolding fans_answer booking_answer
-    walk_from e = go (is_level_cell w) (sym (ap fans_numbers e) ∙ told)
-      where
-        go : (b : Bool) → result_of [] ≡ pick b (result_of (corner_triangles w ∷ larger w ∷ smaller w ∷ booked w ∷ [])) (result_of [])
-            → result_of [] ≡ pick b (result_of (corner_triangles w ∷ larger w ∷ smaller w ∷ booked_split w ∷ [])) (result_of [])
-        go true f = absurd (no_nil {a = corner_triangles w} {l = larger w ∷ smaller w ∷ booked w ∷ []} (cc))
-        go false f = refl
+  -- what splitting adds
+  pub gain_walk : fans_numbers None ≡ fans_answer w → {r : Gain} → (r.splits ≡ 0) × (r.more ≡ 0) → GainIn w r
+  unfolding splits_in more_in
+  gain_walk told (p, q) = let K = uncounted w told in record { splits_are = p ∙ rw K refl; more_is = q ∙ rw K refl }
 
-    pub booked_from : {t x y n u d : ℕ} → j ≡ Counted t x y n → u ≡ t → d ≡ beside_drawn x y → result_of (t ∷ x ∷ y ∷ (u + d) ∷ []) ≡ booking_answer w
-    unfolding fans_answer booking_answer booked_split
-    booked_from {t} {x} {y} {n} {u} {d} e p q = go (is_level_cell w) (sym (ap fans_numbers e) ∙ told)
-      where
-        go : (b : Bool) → result_of (t ∷ x ∷ y ∷ n ∷ []) ≡ pick b (result_of (corner_triangles w ∷ larger w ∷ smaller w ∷ booked w ∷ [])) (result_of [])
-            → result_of (t ∷ x ∷ y ∷ (u + d) ∷ []) ≡ pick b (result_of (corner_triangles w ∷ larger w ∷ smaller w ∷ (corner_triangles w + beside_drawn (larger w) (smaller w)) ∷ [])) (result_of [])
-        go true f =
-            let a : t ≡ corner_triangles w = cc in
-            let b : x ≡ larger w = cc in
-            let c : y ≡ smaller w = cc in
-            rw (p, q, a, b, c) refl
-        go false f = absurd (no_nil {a = t} {l = x ∷ y ∷ n ∷ []} (cc))
+  module _ {f : Fans} (told : fans_numbers (Some f) ≡ fans_answer w) where
+    pub booked_from : {d : ℕ} → d ≡ beside_drawn f.d1 f.d2 → result_of (f.corners ∷ f.d1 ∷ f.d2 ∷ (f.corners + d) ∷ []) ≡ booking_answer w
+    unfolding booking_answer booked_split
+    booked_from q = let F = counted w told in rw (q, F.level, F.corners, F.d1, F.d2) refl
 
-    -- what splitting adds
-    pub gain_walk : j ≡ WalkIt → {r : Gain} → (r.splits ≡ 0) × (r.more ≡ 0) → GainIn w r
-    unfolding fans_answer splits_in more_in
-    gain_walk e {r} (p, q) = go (is_level_cell w) refl (sym (ap fans_numbers e) ∙ told)
-      where
-        go : (b : Bool) → is_level_cell w ≡ b → result_of [] ≡ pick b (result_of (corner_triangles w ∷ larger w ∷ smaller w ∷ booked w ∷ [])) (result_of []) → GainIn w r
-        go true k f = absurd (no_nil {a = corner_triangles w} {l = larger w ∷ smaller w ∷ booked w ∷ []} (cc))
-        go false k f = record { splits_are = p ∙ rw k refl; more_is = q ∙ rw k refl }
-
-    pub gain_counted : {t x y n : ℕ} → j ≡ Counted t x y n → {r : Gain} → GainBy x y r → GainIn w r
-    unfolding fans_answer splits_in more_in
-    gain_counted {t} {x} {y} {n} e {r} G = go (is_level_cell w) refl (sym (ap fans_numbers e) ∙ told)
-      where
-        go : (b : Bool) → is_level_cell w ≡ b → result_of (t ∷ x ∷ y ∷ n ∷ []) ≡ pick b (result_of (corner_triangles w ∷ larger w ∷ smaller w ∷ booked w ∷ [])) (result_of []) → GainIn w r
-        go true k f =
-            let b : x ≡ larger w = cc in
-            let c : y ≡ smaller w = cc in
-            record { splits_are = G.splits_are ∙ rw (k, b, c) refl; more_is = G.more_is ∙ rw (k, b, c) refl }
-        go false k f = absurd (no_nil {a = t} {l = x ∷ y ∷ n ∷ []} (cc))
+    pub gain_counted : {r : Gain} → GainBy f.d1 f.d2 r → GainIn w r
+    unfolding splits_in more_in
+    gain_counted G = let F = counted w told in record { splits_are = G.splits_are ∙ rw (F.level, F.d1, F.d2) refl; more_is = G.more_is ∙ rw (F.level, F.d1, F.d2) refl }

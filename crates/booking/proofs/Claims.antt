@@ -4,6 +4,8 @@ use mathlib.Core.Path.{◌≡◌, refl, ◌∙◌}
 use mathlib.Core.Bool.{true}
 use mathlib.Core.List.{[], ◌∷◌}
 use native.Mathlib.Omega.{arith}
+use Rattle.std.specs.Prelude.{Option, Some, None}
+use Rattle.answer.specs.Answer.{result_of}
 use Rattle.answer.proofs.Answer.{no_nil}
 use Rattle.cell.specs.Cell.{Edges}
 use Rattle.cell.specs.Loop.{loop_size}
@@ -11,7 +13,7 @@ use Rattle.cell.specs.claims.Nodes.{Arranged}
 use Rattle.cell.specs.Level.{is_level_cell}
 use Rattle.cell.proofs.Mates.{laws}
 use Rattle.cell.proofs.Turn.{turn}
-use Rattle.booking.specs.declared.Booking.TheVariants.{Booked, WalkIt}
+use Rattle.booking.specs.declared.Booking.{Booking}
 use Rattle.booking.specs.claims.Booking.{other_length}
 use Rattle.booking.specs.claims.Claims.{OneToOne, Other, LoopLaws, CountLaws, StepLaws, Books, TrianglesBooked}
 use Rattle.booking.proofs.Counts.{twice_corner, twice_least, fits, left_opposite, left_sum, numbers}
@@ -68,8 +70,12 @@ books w K = record { counts = λ a b c d A. count_laws w.count K A; steps = λ a
 pub triangles_booked : TrianglesBooked
 triangles_booked c K = triangles-booked c K
 
+same_booking : (t x y n u z v m : ℕ) → result_of (t ∷ x ∷ y ∷ n ∷ []) ≡ result_of (u ∷ z ∷ v ∷ m ∷ [])
+    → ◌≡◌ {A = Option Booking} (Some (record { corners = t; d1 = x; d2 = y; triangles = n })) (Some (record { corners = u; d1 = z; d2 = v; triangles = m }))
+same_booking t x y n u z v m e = cc
+
 pub one_to_one : OneToOne
-one_to_one (Booked t x y n) (Booked u z v m) e = cc
-one_to_one (Booked t x y n) WalkIt e = absurd (no_nil {a = t} {l = x ∷ y ∷ n ∷ []} (cc))
-one_to_one WalkIt (Booked t x y n) e = absurd (no_nil {a = t} {l = x ∷ y ∷ n ∷ []} (cc))
-one_to_one WalkIt WalkIt e = refl
+one_to_one (Some b) (Some c) e = same_booking b.corners b.d1 b.d2 b.triangles c.corners c.d1 c.d2 c.triangles e
+one_to_one (Some b) None e = absurd (no_nil {a = b.corners} {l = b.d1 ∷ b.d2 ∷ b.triangles ∷ []} (cc))
+one_to_one None (Some b) e = absurd (no_nil {a = b.corners} {l = b.d1 ∷ b.d2 ∷ b.triangles ∷ []} (cc))
+one_to_one None None e = refl

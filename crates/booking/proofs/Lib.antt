@@ -12,6 +12,7 @@ pub mod Corners
 pub mod Count
 pub mod Triangles
 pub mod Sums
+pub mod Levels
 pub mod Totals
 pub mod Answers
 pub mod Claims

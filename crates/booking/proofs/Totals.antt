@@ -4,12 +4,13 @@ use Prim.Native.Nat.{ℕ, ◌+◌, ◌*◌, ◌≤◌}
 use mathlib.Core.Path.{◌≡◌, refl, sym, ap, ◌∙◌}
 use mathlib.Core.Logic.{⊎_elim}
 use mathlib.Core.Bool.{Bool, true, false, ◌||◌}
-use mathlib.Core.List.{List, [], ◌∷◌}
+use mathlib.Core.List.{List, []}
 use native.Mathlib.Nat.{eq-zero-or-pos}
 use native.Mathlib.Omega.{arith}
 use lib.Dec.{ltb}
 use lib.ListN.{length}
 use borrow.Author.Tests.{eq-eqb, ne_eqb}
+use Rattle.std.specs.Prelude.{Some, None}
 use Rattle.counting.specs.Pick.{pick}
 use Rattle.counting.specs.Lists.{total, pre}
 use Rattle.counting.proofs.Range.{total_ext, total_add, total_mono, total_same, length_over}
@@ -27,14 +28,13 @@ use Rattle.cell.proofs.Values.{taken_is, taken_crossings}
 use Rattle.cases.specs.claims.Cases.{entries, entry_of}
 use Rattle.cases.specs.claims.Tally.{triangles_at, find_entry_at}
 use Rattle.cases.proofs.Claims.{by_place, common_triangles}
-use Rattle.answer.specs.Answer.{result_of}
 use Rattle.booking.specs.declared.Fans.{Fans}
-use Rattle.booking.specs.declared.Fans.TheVariants.{Counted, WalkIt}
-use Rattle.booking.specs.Booking.{corner_triangles, larger, smaller, beside}
+use Rattle.booking.specs.Booking.{larger, smaller, beside}
 use Rattle.booking.specs.claims.Booking.{booked}
 use Rattle.booking.specs.work.Fans.{fans_numbers, fans_answer}
-use Rattle.booking.specs.work.Totals.{booked_triangles, walked_crossings, common_at, booked_at, known_at, crossings_at}
+use Rattle.booking.specs.work.Totals.{common_at, booked_at, known_at, crossings_at}
 use Rattle.booking.proofs.Counts.{plain}
+use Rattle.booking.proofs.Levels.{counted, uncounted}
 use Rattle.booking.proofs.Count.{crossings_are}
 use Rattle.booking.proofs.Triangles.{triangles-booked}
 
@@ -47,36 +47,13 @@ pub booked_few : (w : ℕ → ℕ) → is_level_cell w ≡ true → booked w ≤
 unfolding booked
 booked_few w K = omega (arith, crossings_are (plain w) K, beside_few (larger w) (smaller w))
 
--- what is summed by a booking's answer
+-- what is summed of a cell that is booked, and of one that is to be walked
 module _ (w : ℕ → ℕ) where
-  abbrev Told : Bool → List ℕ
-  Told b = pick b (result_of (corner_triangles w ∷ larger w ∷ smaller w ∷ booked w ∷ [])) (result_of [])
+  pub told_booked : {f : Fans} → fans_numbers (Some f) ≡ fans_answer w → (f.triangles ≡ pick (is_level_cell w) (booked w) 0) × (0 ≡ pick (is_level_cell w) 0 (pre w 6))
+  told_booked told = let F = counted w told in (F.triangles ∙ rw F.level refl, rw F.level refl)
 
-  pub triangles_told : (j : Fans) → fans_numbers j ≡ fans_answer w → booked_triangles j ≡ pick (is_level_cell w) (booked w) 0
-  unfolding fans_answer
-  triangles_told (Counted t x y n) e = go (is_level_cell w) e
-    where
-      go : (b : Bool) → fans_numbers (Counted t x y n) ≡ Told b → n ≡ pick b (booked w) 0
-      go true e = cc
-      go false e = let z : ◌≡◌ {A = ℕ} 0 1 = cc in absurd (omega arith)
-  triangles_told WalkIt e = go (is_level_cell w) e
-    where
-      go : (b : Bool) → fans_numbers WalkIt ≡ Told b → 0 ≡ pick b (booked w) 0
-      go true e = let z : ◌≡◌ {A = ℕ} 0 1 = cc in absurd (omega arith)
-      go false e = refl
-
-  pub crossings_told : (j : Fans) → fans_numbers j ≡ fans_answer w → walked_crossings j w ≡ pick (is_level_cell w) 0 (pre w 6)
-  unfolding fans_answer
-  crossings_told (Counted t x y n) e = go (is_level_cell w) e
-    where
-      go : (b : Bool) → fans_numbers (Counted t x y n) ≡ Told b → 0 ≡ pick b 0 (pre w 6)
-      go true e = refl
-      go false e = let z : ◌≡◌ {A = ℕ} 0 1 = cc in absurd (omega arith)
-  crossings_told WalkIt e = go (is_level_cell w) e
-    where
-      go : (b : Bool) → fans_numbers WalkIt ≡ Told b → pre w 6 ≡ pick b 0 (pre w 6)
-      go true e = let z : ◌≡◌ {A = ℕ} 0 1 = cc in absurd (omega arith)
-      go false e = refl
+  pub told_walked : fans_numbers None ≡ fans_answer w → (0 ≡ pick (is_level_cell w) (booked w) 0) × (pre w 6 ≡ pick (is_level_cell w) 0 (pre w 6))
+  told_walked told = let K = uncounted w told in (rw K refl, rw K refl)
 
 -- a cell of the tables
 module _ (counts sides : List ℕ) (c : ℕ) where

@@ -3,7 +3,6 @@ ghost use Rattle.std.specs.Prelude.{◌*◌, ◌≤◌};
 ghost use Rattle.booking.specs.work.Sums.{most_number, most_added, AreFigures, EndsAt};
 
 use super::SplitSums;
-use counting::{greatest32, least32, long32, minus32, word16};
 
 // The figures, where x is the number at the end.
 fn figures_at(splits: u32, inner: u64, triangles: u64, x: u32) -> SplitSums
@@ -13,7 +12,7 @@ fn figures_at(splits: u32, inner: u64, triangles: u64, x: u32) -> SplitSums
     SplitSums {
         splits,
         inner,
-        triangles: triangles + long32(8 * x),
+        triangles: triangles + (8 * x) as u64,
         end: x,
     }
 }
@@ -22,23 +21,20 @@ fn figures_at(splits: u32, inner: u64, triangles: u64, x: u32) -> SplitSums
 pub fn figures_of(d1: u16, d2: u16) -> SplitSums
     ensures { AreFigures d1 d2 result }
 {
-    let mut x = word16(d1);
-    let mut y = word16(d2);
-    let mut left = x + y;
-    let mut splits: u32 = 0;
+    let mut x = d1 as u32;
+    let mut y = d2 as u32;
+    let most = x + y;
     let mut inner: u64 = 0;
     let mut triangles: u64 = 0;
-    while 0 < left {
+    for splits in 0..most {
         if x == y {
             return figures_at(splits, inner, triangles, x);
         }
-        splits += 1;
-        inner += long32(2 * (x + y));
-        triangles += long32(4 * x + 10 * y);
-        let d = minus32(x, y);
-        x = greatest32(d, y);
-        y = least32(d, y);
-        left -= 1;
+        inner += (2 * (x + y)) as u64;
+        triangles += (4 * x + 10 * y) as u64;
+        let d = x.saturating_sub(y);
+        x = d.max(y);
+        y = d.min(y);
     }
-    figures_at(splits, inner, triangles, x)
+    figures_at(most, inner, triangles, x)
 }

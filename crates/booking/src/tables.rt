@@ -5,23 +5,22 @@ ghost use Rattle.counting.specs.Lists.{total, pre};
 ghost use Rattle.cell.specs.Level.{by_edge};
 ghost use Rattle.cell.specs.claims.Table.{drawn_cells, table_triangles};
 ghost use Rattle.cell.specs.work.Table.{most_triangles, walked_at};
-ghost use Rattle.booking.specs.work.Totals.{most_counts, booked_triangles, walked_crossings, crossings_at, AreTotals};
+ghost use Rattle.booking.specs.work.Totals.{most_counts, crossings_at, AreTotals};
 
-use super::{Fans, fans_of};
+use super::fans_of;
 use cases::ENTRIES;
-use counting::wide16;
 use slots::{MOST_EDGES, MOST_SLOTS};
 
 // How many crossings a cell with these counts has.
 pub fn crossings_in(counts: [u16; 6]) -> usize
     ensures { (result ≡ pre (by_edge counts) 6) × (result ≤ most_counts) }
 {
-    wide16(counts[0])
-        + wide16(counts[1])
-        + wide16(counts[2])
-        + wide16(counts[3])
-        + wide16(counts[4])
-        + wide16(counts[5])
+    counts[0] as usize
+        + counts[1] as usize
+        + counts[2] as usize
+        + counts[3] as usize
+        + counts[4] as usize
+        + counts[5] as usize
 }
 
 // What the cells come to: the triangles of those that are in the table of common cells or are booked, and the crossings of the others.
@@ -29,26 +28,6 @@ pub fn crossings_in(counts: [u16; 6]) -> usize
 struct Totals {
     known: usize,
     crossings: usize,
-}
-
-// The triangles of a cell that is booked, 0 of any other.
-fn booked_in(b: Fans) -> usize
-    ensures { result ≡ booked_triangles b }
-{
-    match b {
-        Fans::Counted(_, _, _, n) => n as usize,
-        Fans::WalkIt => 0,
-    }
-}
-
-// The crossings of a cell with these counts where it is to be walked, else 0.
-fn unbooked_in(b: Fans, counts: [u16; 6]) -> usize
-    ensures { result ≡ walked_crossings b (by_edge counts) }
-{
-    match b {
-        Fans::Counted(_, _, _, _) => 0,
-        Fans::WalkIt => crossings_in(counts),
-    }
 }
 
 // The common cells are tallied by entry: the number of cells times triangles.
@@ -59,19 +38,16 @@ fn totals_of(cells: &[u16], counts: &[u16], sides: &[u16; MOST_EDGES]) -> Totals
     let mut tally = [0u16; ENTRIES];
     let mut booked: usize = 0;
     let mut crossings: usize = 0;
-    let mut c: usize = 0;
-    while c < n {
+    for c in 0..n {
         let six = cell::counts_at(counts, sides, c);
-        let e = cases::find_entry(six);
-        if e < ENTRIES {
+        if let Some(e) = cases::find_entry(six) {
             tally[e] += 1;
-            c += 1;
             continue;
         }
-        let b = fans_of(six);
-        booked += booked_in(b);
-        crossings += unbooked_in(b, six);
-        c += 1;
+        match fans_of(six) {
+            Some(f) => booked += f.triangles as usize,
+            None => crossings += crossings_in(six),
+        }
     }
     let known = booked + cases::triangles_in(&tally);
     Totals { known, crossings }

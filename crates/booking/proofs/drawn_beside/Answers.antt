@@ -6,9 +6,7 @@ use Rattle.booking.proofs.Drawn.{drawn_flat, drawn_split, drawn_fans}
 use Rattle.booking.proofs.drawn_beside.Goals as goal
 
 pub returns-then-d2-eq0 : goal.returns-then-d2-eq0
-returns-then-d2-eq0 c = let a = c.args in
-    let D = drawn_flat a.d1 a.d2 c.if-d2-eq0.true c.requires.1 in
-    (c.long32.ensures.0 ∙ D.0, omega (arith, c.long32.ensures.0, D.1))
+returns-then-d2-eq0 c = drawn_flat c.args.d1 c.args.d2 c.if-d2-eq0.true c.requires.1
 
 pub returns-then-f-gt1 : goal.returns-then-f-gt1
 returns-then-f-gt1 c = let a = c.args in
@@ -23,5 +21,4 @@ returns c = let a = c.args in
     let f = c.figures_of-f.ensures in
     let p : 0 < a.d2 = omega arith in
     let g = f.end_is ∙ (figure_laws a.d1 a.d2 p c.requires.0).end in
-    let D = drawn_fans a.d1 a.d2 p c.requires.0 c.requires.1 (omega (arith, g)) in
-    (c.long32-2.ensures.0 ∙ D.0, omega (arith, c.long32-2.ensures.0, D.1))
+    drawn_fans a.d1 a.d2 p c.requires.0 c.requires.1 (omega (arith, g))

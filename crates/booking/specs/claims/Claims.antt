@@ -1,5 +1,5 @@
 -- What is proved of the cells that are booked, for all counts and all first numbers.
-use Rattle.std.specs.Prelude.{ℕ, ◌+◌, ◌*◌, ◌/◌, ◌≤◌, ◌<◌, ◌≡◌, ◌≢◌, true, not, eqb, length}
+use Rattle.std.specs.Prelude.{ℕ, ◌+◌, ◌*◌, ◌/◌, ◌≤◌, ◌<◌, ◌≡◌, ◌≢◌, true, not, Option, eqb, length}
 use Rattle.counting.specs.Lists.{tally}
 use Rattle.counting.specs.Gcd.{gcd}
 use Rattle.walk.specs.Darts.{Loop, of_crossing}
@@ -18,9 +18,9 @@ use Rattle.booking.specs.claims.Booking.{other_length, booked}
 use Rattle.booking.specs.claims.Left.{largest_pair, pair_sum, Longest, Numbers, round_size, TwoSteps}
 use Rattle.booking.specs.Answer.{booking_numbers}
 
--- the reading of the answer in numbers is one to one, so that the numbers determine the enum
+-- the reading of the answer in numbers is one to one, so that the numbers determine the answer
 abbrev pub OneToOne : Type 0
-OneToOne = (j k : Booking) → booking_numbers j ≡ booking_numbers k → j ≡ k
+OneToOne = (j k : Option Booking) → booking_numbers j ≡ booking_numbers k → j ≡ k
 
 module _ (w : Edges) where
   -- crossing x is on the loop from crossing p

@@ -5,7 +5,6 @@ use Rattle.cell.specs.work.Limits.{most_sum}
 use Rattle.booking.specs.declared.SplitSums.{SplitSums}
 use Rattle.booking.specs.declared.Gain.{Gain}
 use Rattle.booking.specs.declared.Fans.{Fans}
-use Rattle.booking.specs.declared.Fans.TheVariants.{Counted, WalkIt}
 use Rattle.booking.specs.Figures.{figure_in, figure, splits, inner_crossings, beside_split}
 use Rattle.booking.specs.claims.Figures.{end_number}
 use Rattle.booking.specs.Booking.{beside}
@@ -31,8 +30,7 @@ most_beside = 8 * (most_number * most_number)
 
 -- how large the numbers of a count of fans are
 abbrev pub FewFans : Fans → Type 0
-FewFans (Counted t x y n) = (t ≤ most_sum) × (y ≤ x) × (x ≤ most_number)
-FewFans WalkIt = Unit {0}
+FewFans f = (f.corners ≤ most_sum) × (f.d2 ≤ f.d1) × (f.d1 ≤ most_number)
 
 -- r are the splits and what they add
 pub record GainBy (x y : ℕ) (r : Gain) : Type 0 where

@@ -2,29 +2,18 @@
 -- have an entry in the table or are booked, and the crossings of the others.
 use Rattle.std.specs.Prelude.{ℕ, ◌+◌, ◌≤◌, ◌≡◌, List}
 use Rattle.counting.specs.Pick.{pick}
-use Rattle.counting.specs.Lists.{total, pre}
+use Rattle.counting.specs.Lists.{total}
 use Rattle.cell.specs.Level.{by_edge, is_level_cell}
 use Rattle.cell.specs.Common.{is_common}
 use Rattle.cell.specs.work.Table.{is_known, table_crossings, most_triangles}
 use Rattle.cell.specs.claims.Table.{taken_counts}
 use Rattle.cases.specs.claims.Cases.{entry_of}
 use Rattle.cases.specs.claims.Tally.{triangles_at}
-use Rattle.booking.specs.declared.Fans.{Fans}
-use Rattle.booking.specs.declared.Fans.TheVariants.{Counted, WalkIt}
 use Rattle.booking.specs.claims.Booking.{booked}
 
 -- the most that six counts of 16 bits add up to
 abbrev pub most_counts : ℕ
 most_counts = 393210
-
--- of a booking
-abbrev pub booked_triangles : Fans → ℕ
-booked_triangles (Counted t x y n) = n
-booked_triangles WalkIt = 0
-
-abbrev pub walked_crossings : Fans → (ℕ → ℕ) → ℕ
-walked_crossings (Counted t x y n) w = 0
-walked_crossings WalkIt w = pre w 6
 
 -- of cell c of the tables
 module _ (counts sides : List ℕ) where

@@ -1,4 +1,4 @@
-use Prim.Native.Nat.{ℕ, ◌-◌, ◌≤◌}
+use Prim.Native.Nat.{ℕ}
 use mathlib.Core.List.{List}
 use Rattle.counting.specs.work.Stored.{Summed}
 use Rattle.cell.specs.work.Limits.{most_in_cell}
@@ -14,7 +14,4 @@ pub record Had (counts sides : List ℕ) (c : ℕ) (tally : List ℕ) (booked cr
   pub crossed : Summed (crossings_at counts sides) most_in_cell c crossings
 
 abbrev pub invariant-loop-c : goal.invariant-loop-c
-invariant-loop-c l = (l.c ≤ l.n) × Had l.counts l.sides l.c l.tally l.booked l.crossings
-
-abbrev pub decreases-loop-c : goal.decreases-loop-c
-decreases-loop-c l = l.n - l.c
+invariant-loop-c l = Had l.counts l.sides l.c l.tally l.booked l.crossings
