@@ -3,13 +3,13 @@
 ghost use Rattle.std.specs.Prelude.{◌≡◌, ◌≤◌, length};
 ghost use Rattle.counting.specs.Lists.{total, pre};
 ghost use Rattle.cell.specs.Level.{by_edge};
-ghost use Rattle.cell.specs.claims.Table.{drawn_cells, table_triangles};
-ghost use Rattle.cell.specs.work.Table.{most_triangles, walked_at};
+ghost use Rattle.cell.specs.work.Table.{most_triangles};
+ghost use Rattle.cell.specs.work.Tables.{drawn_in, walked_in, triangles_all};
 ghost use Rattle.booking.specs.work.Totals.{most_counts, crossings_at, AreTotals};
 
 use super::fans_of;
 use cases::ENTRIES;
-use slots::{MOST_EDGES, MOST_SLOTS};
+use cell::Tables;
 
 // How many crossings a cell with these counts has.
 pub fn crossings_in(counts: [u16; 6]) -> usize
@@ -31,15 +31,15 @@ struct Totals {
 }
 
 // The common cells are tallied by entry: the number of cells times triangles.
-fn totals_of(cells: &[u16], counts: &[u16], sides: &[u16; MOST_EDGES]) -> Totals
-    ensures { AreTotals counts.now sides.now (drawn_cells cells.now) result.known result.crossings }
+fn totals_of(tables: Tables) -> Totals
+    ensures { AreTotals tables.entry.counts.now tables.entry.sides.now (drawn_in tables.entry) result.known result.crossings }
 {
-    let n = cell::drawn(cells);
+    let n = cell::drawn(tables.cells);
     let mut tally = [0u16; ENTRIES];
     let mut booked: usize = 0;
     let mut crossings: usize = 0;
     for c in 0..n {
-        let six = cell::counts_at(counts, sides, c);
+        let six = cell::counts_at(tables.counts, tables.sides, c);
         if let Some(e) = cases::find_entry(six) {
             tally[e] += 1;
             continue;
@@ -54,33 +54,20 @@ fn totals_of(cells: &[u16], counts: &[u16], sides: &[u16; MOST_EDGES]) -> Totals
 }
 
 // How many triangles the cells have that are neither in the table nor booked; they have so many crossings.
-fn count_others(
-    cells: &[u16],
-    counts: &[u16],
-    names: &[u16; MOST_SLOTS],
-    sides: &[u16; MOST_EDGES],
-    starts: &[u32],
-    crossings: usize,
-) -> usize
-    requires { crossings ≡ total (crossings_at counts.now sides.now) (drawn_cells cells.now) 0 }
-    ensures { (result ≡ total (walked_at cells.now counts.now names.now sides.now starts.now) (drawn_cells cells.now) 0) × (result ≤ most_triangles) }
+fn count_others(tables: Tables, crossings: usize) -> usize
+    requires { crossings ≡ total (crossings_at tables.counts.now tables.sides.now) (drawn_in tables) 0 }
+    ensures { (result ≡ total (walked_in tables.entry) (drawn_in tables.entry) 0) × (result ≤ most_triangles) }
 {
     if crossings == 0 {
         return 0;
     }
-    cell::count_walked(cells, counts, names, sides, starts)
+    cell::count_walked(tables)
 }
 
 // How many triangles the loops of all cells of the tables have. About 178 KB of stack.
-pub fn count_all(
-    cells: &[u16],
-    counts: &[u16],
-    names: &[u16; MOST_SLOTS],
-    sides: &[u16; MOST_EDGES],
-    starts: &[u32],
-) -> usize
-    ensures { (result ≡ length (table_triangles cells.now counts.now names.now sides.now starts.now)) × (result ≤ most_triangles) }
+pub fn count_all(tables: Tables) -> usize
+    ensures { (result ≡ length (triangles_all tables.entry)) × (result ≤ most_triangles) }
 {
-    let totals = totals_of(cells, counts, sides);
-    totals.known + count_others(cells, counts, names, sides, starts, totals.crossings)
+    let totals = totals_of(tables);
+    totals.known + count_others(tables, totals.crossings)
 }

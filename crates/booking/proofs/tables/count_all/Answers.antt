@@ -9,7 +9,7 @@ pub count_others-requires : goal.count_others-requires
 count_others-requires c = c.totals_of-totals.ensures.crossings_are
 
 pub returns : goal.returns
-returns c = let A = c.args in
+returns c = let A = c.args.tables in
     let T = c.totals_of-totals.ensures in
     let n = c.count_others.ensures.0 in
     let sum = all_counted A.cells.now A.counts.now A.names.now A.sides.now A.starts.now in

@@ -105,7 +105,7 @@ loop-c-preserved c = let L = c.loop-c in
     ]
 
 pub returns : goal.returns
-returns c = let A = c.args in
+returns c = let A = c.args.tables in
     let L = c.loop-c in
     let H = L.invariant in
     let d = c.drawn-n.ensures in

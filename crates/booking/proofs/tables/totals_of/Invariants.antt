@@ -14,4 +14,4 @@ pub record Had (counts sides : List ℕ) (c : ℕ) (tally : List ℕ) (booked cr
   pub crossed : Summed (crossings_at counts sides) most_in_cell c crossings
 
 abbrev pub invariant-loop-c : goal.invariant-loop-c
-invariant-loop-c l = Had l.counts l.sides l.c l.tally l.booked l.crossings
+invariant-loop-c l = Had l.tables.counts.now l.tables.sides.now l.c l.tally l.booked l.crossings
