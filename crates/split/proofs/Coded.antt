@@ -41,7 +41,7 @@ module _ {c : Cell} (S : LevelSix c) {l : List ℕ} (e : l ≡ values (count_of 
   pub numbers_are : {own : List ℕ} {x y z m s i j k : ℕ} → AreOwn (by_edge l) own
       → x ≡ by_edge l 0 - get_or own 0 0 - get_or own 1 0 → y ≡ by_edge l 1 - get_or own 0 0 - get_or own 2 0 → z ≡ by_edge l 2 - get_or own 0 0 - get_or own 3 0
       → m ≡ median x y z → s ≡ smallest x y z → i ≡ label_by m s x → j ≡ label_by m s y → k ≡ label_by m s z
-      → SpiralNumbers c (record { larger = m; smaller = s; own = own; label = 0 ∷ i ∷ j ∷ k ∷ [] })
+      → SpiralNumbers c (record { cell = c; larger = m; smaller = s; own = own; label = 0 ∷ i ∷ j ∷ k ∷ [] })
   unfolding larger smaller left_between joining edge_between
   numbers_are {own} {x} {y} {z} {m} {s} {i} {j} {k} O ex ey ez em es ei ej ek =
       let O' : AreOwn (count_of c) own = subst (λ w. AreOwn w own) counts_are O in

@@ -116,6 +116,10 @@ module _ {c : Cell} {s : Spiral} {cell n b f : ℕ} (W : Working c s cell n b f)
 pub working_at : {c : Cell} {s : Spiral} {cell n b f : ℕ} → Working c s cell n b f → (m : ℕ) → m + 4 ≤ 65536 → Working c s cell m b f
 working_at W m h = record { is = W.is; below = W.below; cell_lt = W.cell_lt; n_few = h; b_few = W.b_few; f_few = W.f_few }
 
+-- and of the cell that its numbers have
+pub working_own : {c : Cell} {s : Spiral} {cell n b f : ℕ} → s.cell ≡ c → Working c s cell n b f → Working s.cell s cell n b f
+working_own {c} {s} {cell} {n} {b} {f} e W = subst (λ v. Working v s cell n b f) (sym e) W
+
 -- where there is no split
 module _ {c : Cell} {cell n b f left : ℕ} (L : SplitsLeft c cell n b f left) where
   pub none_left : left ≡ 0 → parts_words (larger (count_of c) + smaller (count_of c)) cell n b f c ≡ all_words (triangles_with c 0)

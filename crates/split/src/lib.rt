@@ -8,9 +8,8 @@ ghost use Rattle.cell.specs.Of.{count_of};
 ghost use Rattle.cell.specs.Words.{all_words};
 ghost use Rattle.cell.specs.Triangles.{triangles_with};
 ghost use Rattle.booking.specs.Booking.{larger, smaller};
-ghost use Rattle.split.specs.Limits.{word_step};
 ghost use Rattle.split.specs.Parts.{drawn_triangles};
-ghost use Rattle.split.specs.work.Working.{StartsNear, Working, SplitsLeft, Drawable, parts_words, start_words, end_words};
+ghost use Rattle.split.specs.work.Working.{StartsNear, Working, SplitsLeft, Drawable, first_numbering, parts_words, start_words, end_words};
 
 use cell::Cell;
 use slots::{MOST_CELLS, MOST_CROSSINGS, MOST_SLOTS};
@@ -22,17 +21,26 @@ mod spots;
 mod subs;
 
 pub use drawing::{draw, sums_of};
-use numbers::spiral_of;
 pub use spots::{extra_of, write_drawn_middles, write_inner};
-use subs::sub_of;
 
-// Of a cell: d1 and d2; at each position the own corner triangles and the label.
+// A cell that is split: d1 and d2; at each position the own corner triangles and the label.
 #[derive(Clone, Copy)]
 struct Spiral {
+    cell: Cell,
     larger: u32,
     smaller: u32,
     own: [u32; 4],
     label: [u32; 4],
+}
+
+// By what a cell or sub-cell goes that is split: the number of its cell, its own number there, and where the numbers of the inner crossings of the split and
+// the names of its inner faces start.
+#[derive(Clone, Copy)]
+struct Numbering {
+    cell: u32,
+    number: u32,
+    crossing: u32,
+    face: u32,
 }
 
 // How many triangles are drawn of the cells of a grid, and how many splits are made in them.
@@ -72,6 +80,11 @@ struct PointSums {
     loops: u64,
 }
 
+// Where the numbers of inner crossings and the names of inner faces of a cell start.
+pub const FIRST_CROSSING: u32 = MOST_CROSSINGS + 1;
+
+pub const FIRST_FACE: u32 = MOST_SLOTS as u32;
+
 // The length of the loops of the own corner triangles.
 const CORNER: usize = 3;
 
@@ -86,91 +99,60 @@ fn put(c: Cell, only: usize, area: &mut [u32], at: usize) -> usize
     )
 }
 
-// Word 0 of the sub-cell with the number n.
-fn word(cell: u32, n: u32) -> u32
-    requires { (cell < word_step) × (n ≤ short_limit) }
-    ensures { result ≡ cell + word_step * n }
-{
-    cell + MOST_CELLS as u32 * n
-}
-
 // The parts of a split before the nested one: the own corner triangles, and the sub-cell that omits l.
-fn put_start(
-    c: Cell,
-    s: Spiral,
-    cell: u32,
-    n: u32,
-    b: u32,
-    f: u32,
-    area: &mut [u32],
-    at: usize,
-) -> usize
-    requires working { Working c s cell n b f }
-    requires f_in_bounds { at + length (start_words c cell n b f) ≤ length area.old }
-    ensures { Stored area.old at (start_words c cell n b f) area.new result }
+fn put_start(s: Spiral, by: Numbering, area: &mut [u32], at: usize) -> usize
+    requires working { Working s.cell s by.cell by.number by.crossing by.face }
+    requires s_in_bounds { at + length (start_words s.cell by.cell by.number by.crossing by.face) ≤ length area.old }
+    ensures { Stored area.old at (start_words s.cell by.cell by.number by.crossing by.face) area.new result }
 {
-    let i = put(c, CORNER, area, at);
-    put(sub_of(c, s, b, f, word(cell, n + 1), 3), 0, area, i)
+    let i = put(s.cell, CORNER, area, at);
+    put(s.sub_cell(by, 1, 3), 0, area, i)
 }
 
-// Those after it: the sub-cells that omit j and i, of which the first has the number n.
-fn put_end(
-    c: Cell,
-    s: Spiral,
-    cell: u32,
-    n: u32,
-    b: u32,
-    f: u32,
-    area: &mut [u32],
-    at: usize,
-) -> usize
-    requires working { Working c s cell n b f }
-    requires f_in_bounds { at + length (end_words c cell n b f) ≤ length area.old }
-    ensures { Stored area.old at (end_words c cell n b f) area.new result }
+// Those after it: the sub-cells that omit j and i, of which the first has the number of `by`.
+fn put_end(s: Spiral, by: Numbering, area: &mut [u32], at: usize) -> usize
+    requires working { Working s.cell s by.cell by.number by.crossing by.face }
+    requires s_in_bounds { at + length (end_words s.cell by.cell by.number by.crossing by.face) ≤ length area.old }
+    ensures { Stored area.old at (end_words s.cell by.cell by.number by.crossing by.face) area.new result }
 {
-    let i = put(sub_of(c, s, b, f, word(cell, n), 1), 0, area, at);
-    put(sub_of(c, s, b, f, word(cell, n + 1), 0), 0, area, i)
+    let i = put(s.sub_cell(by, 0, 1), 0, area, at);
+    put(s.sub_cell(by, 1, 0), 0, area, i)
 }
 
-// The parts of c, a cell or the sub-cell with the number n of the cell `cell`, in order of working; so many splits are left to make in it. Its inner
-// crossings are numbered from b on and its inner faces named from f on. The sum of d1 and d2 falls from split to split (01).
-fn split_in(
-    c: Cell,
-    cell: u32,
-    n: u32,
-    b: u32,
-    f: u32,
-    left: u32,
-    area: &mut [u32],
-    at: usize,
-) -> usize
-    requires splits_left { SplitsLeft c cell n b f left }
-    requires c_in_bounds { at + length (parts_words (larger (count_of c) + smaller (count_of c)) cell n b f c) ≤ length area.old }
-    ensures { Stored area.old at (parts_words (larger (count_of c) + smaller (count_of c)) cell n b f c) area.new result }
+// The parts of c, a cell or a sub-cell, in order of working; so many splits are left to make in it. The sum of d1 and d2 falls from split to split (01).
+fn split_in(c: Cell, by: Numbering, left: u32, area: &mut [u32], at: usize) -> usize
+    requires splits_left { SplitsLeft c by.cell by.number by.crossing by.face left }
+    requires c_in_bounds { at + length (parts_words (larger (count_of c) + smaller (count_of c)) by.cell by.number by.crossing by.face c) ≤ length area.old }
+    ensures { Stored area.old at (parts_words (larger (count_of c) + smaller (count_of c)) by.cell by.number by.crossing by.face c) area.new result }
 {
     if left == 0 {
         return put(c, 0, area, at);
     }
-    let s = spiral_of(c);
-    let inner = sub_of(c, s, b, f, word(cell, n + 2), 2);
-    let i = put_start(c, s, cell, n, b, f, area, at);
-    let k = split_in(
-        inner,
-        cell,
-        n + 2,
-        b + 2 * (s.larger + s.smaller),
-        f + 6,
-        left - 1,
-        area,
-        i,
-    );
-    put_end(c, s, cell, n + 4 * left - 1, b, f, area, k)
+    let s = Spiral::of(c);
+    let inner = s.sub_cell(by, 2, 2);
+    let nested = s.nested(by);
+    let last = Numbering {
+        number: by.number + 4 * left - 1,
+        ..by
+    };
+    let i = put_start(s, by, area, at);
+    let k = split_in(inner, nested, left - 1, area, i);
+    put_end(s, last, area, k)
 }
 
-// Where the numbers of inner crossings and the names of inner faces of a cell start.
-pub const FIRST_CROSSING: u32 = MOST_CROSSINGS + 1;
-
-pub const FIRST_FACE: u32 = MOST_SLOTS as u32;
+impl Numbering {
+    // Of a cell of a grid.
+    fn of(c: Cell) -> Numbering
+        ensures { result ≡ first_numbering c }
+    {
+        Numbering {
+            cell: c.index,
+            number: 0,
+            crossing: FIRST_CROSSING,
+            face: FIRST_FACE,
+        }
+    }
+}
 
 // Writes the words of what is drawn of the cell, in which so many splits are made: they have room from index `at` on. Answers the next index. The
 // recursion is as deep as there are splits, at most 2,045.
@@ -182,5 +164,5 @@ pub(crate) fn put_cell(c: Cell, splits: u32, area: &mut [u32], at: usize) -> usi
     if splits == 0 {
         return put(c, 0, area, at);
     }
-    split_in(c, c.index, 0, FIRST_CROSSING, FIRST_FACE, splits, area, at)
+    split_in(c, Numbering::of(c), splits, area, at)
 }

@@ -64,25 +64,29 @@ fn label_of(d1: u32, d2: u32, r: u32) -> u32
     }
 }
 
-// The numbers of the cell.
-pub(crate) fn spiral_of(c: Cell) -> Spiral
-    requires { LevelSix c }
-    ensures { SpiralNumbers c result }
-{
-    let six = cell::taken_of(c);
-    let own = own_of(six);
-    let x = left_of(six[0], own[0], own[1]);
-    let y = left_of(six[1], own[0], own[2]);
-    let z = left_of(six[2], own[0], own[3]);
-    let larger = median_of(x, y, z);
-    let smaller = smallest_of(x, y, z);
-    let first = label_of(larger, smaller, x);
-    let second = label_of(larger, smaller, y);
-    let third = label_of(larger, smaller, z);
-    Spiral {
-        larger,
-        smaller,
-        own,
-        label: [0, first, second, third],
+impl Spiral {
+    // The numbers of the cell.
+    pub(crate) fn of(c: Cell) -> Spiral
+        requires { LevelSix c }
+        ensures cell_is { result.cell ≡ c }
+        ensures numbers { SpiralNumbers c result }
+    {
+        let six = cell::taken_of(c);
+        let own = own_of(six);
+        let x = left_of(six[0], own[0], own[1]);
+        let y = left_of(six[1], own[0], own[2]);
+        let z = left_of(six[2], own[0], own[3]);
+        let larger = median_of(x, y, z);
+        let smaller = smallest_of(x, y, z);
+        let first = label_of(larger, smaller, x);
+        let second = label_of(larger, smaller, y);
+        let third = label_of(larger, smaller, z);
+        Spiral {
+            cell: c,
+            larger,
+            smaller,
+            own,
+            label: [0, first, second, third],
+        }
     }
 }

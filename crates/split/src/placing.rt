@@ -10,48 +10,63 @@ ghost use Rattle.split.specs.Standing.{corner_in, new_place, sub_places, split_p
 ghost use Rattle.split.specs.work.Working.{Spiraling, SplitsLeft};
 ghost use Rattle.split.specs.work.Spots.{Nesting, positioned, Spun, standing_inner, standing_fans};
 
-use super::numbers::spiral_of;
-use super::subs::{place_of, spoke_count, sub_of};
-use super::{Spiral, word};
+use super::{Numbering, Spiral};
 use cell::Cell;
 use place::Place;
 use slots::position;
 
-// Where the node with the label m is, of those at `at` by position.
-fn labelled_at(c: Cell, s: Spiral, at: [Place; 4], m: u32) -> Place
-    requires spiraling { Spiraling c s }
-    requires m_bound { m < 4 }
-    ensures { result ≡ corner_in at (labelled (count_of c) m) }
-{
-    at[place_of(c, s, m)]
-}
+impl Spiral {
+    // Where the node with the label m is, of those at `at` by position.
+    fn labelled_at(self, at: [Place; 4], m: u32) -> Place
+        requires spiraling { Spiraling self.cell self }
+        requires m_bound { m < 4 }
+        ensures { result ≡ corner_in at (labelled (count_of self.cell) m) }
+    {
+        at[self.place_of(m)]
+    }
 
-// Where the new node is: the mean of the four places, added up in the order of labels.
-fn new_place(c: Cell, s: Spiral, at: [Place; 4]) -> Place
-    requires { Spiraling c s }
-    ensures { result ≡ new_place (count_of c) at }
-{
-    let i = labelled_at(c, s, at, 0);
-    let j = labelled_at(c, s, at, 1);
-    let k = labelled_at(c, s, at, 2);
-    let l = labelled_at(c, s, at, 3);
-    place::over(place::plus(place::plus(place::plus(i, j), k), l), 4.0)
-}
+    // Where the new node is: the mean of the four places, added up in the order of labels.
+    fn new_place(self, at: [Place; 4]) -> Place
+        requires { Spiraling self.cell self }
+        ensures { result ≡ new_place (count_of self.cell) at }
+    {
+        let i = self.labelled_at(at, 0);
+        let j = self.labelled_at(at, 1);
+        let k = self.labelled_at(at, 2);
+        let l = self.labelled_at(at, 3);
+        place::over(place::plus(place::plus(place::plus(i, j), k), l), 4.0)
+    }
 
-// Where the nodes of the sub-cell are that omits the node with the label m.
-fn sub_places(c: Cell, s: Spiral, at: [Place; 4], m: u32) -> [Place; 4]
-    requires spiraling { Spiraling c s }
-    requires m_bound { m < 4 }
-    ensures { result ≡ sub_places (count_of c) at m }
-{
-    let a = new_place(c, s, at);
-    let p = place_of(c, s, m);
-    [
-        a,
-        at[position(p, 0)],
-        at[position(p, 1)],
-        at[position(p, 2)],
-    ]
+    // Where the nodes of the sub-cell are that omits the node with the label m.
+    fn sub_places(self, at: [Place; 4], m: u32) -> [Place; 4]
+        requires spiraling { Spiraling self.cell self }
+        requires m_bound { m < 4 }
+        ensures { result ≡ sub_places (count_of self.cell) at m }
+    {
+        let a = self.new_place(at);
+        let p = self.place_of(m);
+        [
+            a,
+            at[position(p, 0)],
+            at[position(p, 1)],
+            at[position(p, 2)],
+        ]
+    }
+
+    // Writes the places of the inner crossings of a split, as points from `i` on, and answers the next point.
+    fn put_split(self, at: [Place; 4], area: &mut [f64], i: usize) -> usize
+        requires spiraling { Spiraling self.cell self }
+        requires at_in_bounds { coordinates * (i + length (split_places (count_of self.cell) at)) ≤ length area.old }
+        ensures { Stored area.old (coordinates * i) (all_numbers (split_places (count_of self.cell) at)) area.new (coordinates * result) }
+    {
+        let a = self.new_place(at);
+        let mut k = i;
+        for m in 0..4 {
+            let v = self.labelled_at(at, m);
+            k = put_arm(a, v, self.spoke_count(m), area, k);
+        }
+        k
+    }
 }
 
 // Writes the places of the n inner crossings on the new edge from a to v, as points from `i` on, and answers the next point.
@@ -66,54 +81,28 @@ fn put_arm(a: Place, v: Place, n: u32, area: &mut [f64], i: usize) -> usize
     i + n as usize
 }
 
-// Writes the places of the inner crossings of a split, as points from `i` on, and answers the next point.
-fn put_split(c: Cell, s: Spiral, at: [Place; 4], area: &mut [f64], i: usize) -> usize
-    requires spiraling { Spiraling c s }
-    requires at_in_bounds { coordinates * (i + length (split_places (count_of c) at)) ≤ length area.old }
-    ensures { Stored area.old (coordinates * i) (all_numbers (split_places (count_of c) at)) area.new (coordinates * result) }
-{
-    let a = new_place(c, s, at);
-    let mut k = i;
-    for m in 0..4 {
-        let v = labelled_at(c, s, at, m);
-        k = put_arm(a, v, spoke_count(s.larger, s.smaller, m), area, k);
-    }
-    k
-}
-
 // The inner crossings of c, a cell or a sub-cell whose nodes are at `at`, in order of working; the other numbers are those of `split_in`. The sum of d1
 // and d2 falls from split to split (01).
 pub(crate) fn inner_in(
     c: Cell,
     at: [Place; 4],
-    cell: u32,
-    n: u32,
-    b: u32,
-    f: u32,
+    by: Numbering,
     left: u32,
     area: &mut [f64],
     i: usize,
 ) -> usize
-    requires splits_left { SplitsLeft c cell n b f left }
-    requires c_in_bounds { coordinates * (i + length (standing_inner cell n b f at c)) ≤ length area.old }
-    ensures { Stored area.old (coordinates * i) (all_numbers (standing_inner cell n b f at c)) area.new (coordinates * result) }
+    requires splits_left { SplitsLeft c by.cell by.number by.crossing by.face left }
+    requires c_in_bounds { coordinates * (i + length (standing_inner by.cell by.number by.crossing by.face at c)) ≤ length area.old }
+    ensures { Stored area.old (coordinates * i) (all_numbers (standing_inner by.cell by.number by.crossing by.face at c)) area.new (coordinates * result) }
 {
     if left == 0 {
         return i;
     }
-    let s = spiral_of(c);
-    let k = put_split(c, s, at, area, i);
-    inner_in(
-        sub_of(c, s, b, f, word(cell, n + 2), 2),
-        sub_places(c, s, at, 2),
-        cell,
-        n + 2,
-        b + 2 * (s.larger + s.smaller),
-        f + 6,
-        left - 1,
-        area,
-        k,
-    )
+    let s = Spiral::of(c);
+    let k = s.put_split(at, area, i);
+    let inner = s.sub_cell(by, 2, 2);
+    let places = s.sub_places(at, 2);
+    inner_in(inner, places, s.nested(by), left - 1, area, k)
 }
 
 // The numbers of four places.
@@ -148,33 +137,21 @@ fn put_fans(c: Cell, at: [Place; 4], area: &mut [f64], i: usize) -> usize
 pub(crate) fn centres_in(
     c: Cell,
     at: [Place; 4],
-    cell: u32,
-    n: u32,
-    b: u32,
-    f: u32,
+    by: Numbering,
     left: u32,
     area: &mut [f64],
     i: usize,
 ) -> usize
-    requires spun { Spun c cell n b f left }
-    requires c_in_bounds { coordinates * (i + length (standing_fans cell n b f at c)) ≤ length area.old }
-    ensures { Stored area.old (coordinates * i) (all_numbers (standing_fans cell n b f at c)) area.new (coordinates * result) }
+    requires spun { Spun c by.cell by.number by.crossing by.face left }
+    requires c_in_bounds { coordinates * (i + length (standing_fans by.cell by.number by.crossing by.face at c)) ≤ length area.old }
+    ensures { Stored area.old (coordinates * i) (all_numbers (standing_fans by.cell by.number by.crossing by.face at c)) area.new (coordinates * result) }
 {
     if left == 0 {
         return put_fans(c, at, area, i);
     }
-    let s = spiral_of(c);
-    let v = sub_of(c, s, b, f, word(cell, n + 1), 3);
-    let k = put_fans(v, sub_places(c, s, at, 3), area, i);
-    centres_in(
-        sub_of(c, s, b, f, word(cell, n + 2), 2),
-        sub_places(c, s, at, 2),
-        cell,
-        n + 2,
-        b + 2 * (s.larger + s.smaller),
-        f + 6,
-        left - 1,
-        area,
-        k,
-    )
+    let s = Spiral::of(c);
+    let k = put_fans(s.sub_cell(by, 1, 3), s.sub_places(at, 3), area, i);
+    let inner = s.sub_cell(by, 2, 2);
+    let places = s.sub_places(at, 2);
+    centres_in(inner, places, s.nested(by), left - 1, area, k)
 }

@@ -11,9 +11,8 @@ ghost use Rattle.split.specs.work.Working.{Drawable};
 ghost use Rattle.split.specs.work.Spots.{AreSpots, AreExtra, points_stored, cells_stored, inner_at_cell, middles_at_cell};
 
 use super::drawing::stretch_from;
-use super::numbers::spiral_of;
 use super::placing::{centres_in, inner_in};
-use super::{Extra, FIRST_CROSSING, FIRST_FACE, PointSums, Stretch};
+use super::{Extra, Numbering, PointSums, Spiral, Stretch};
 use cell::Cell;
 use place::Place;
 use slots::{MOST_EDGES, MOST_SLOTS};
@@ -25,7 +24,7 @@ fn spots_of(c: Cell, splits: u32) -> PointSums
     requires splits_nonzero { 0 < splits }
     ensures { AreSpots c result.inner result.more result.loops }
 {
-    let s = spiral_of(c);
+    let s = Spiral::of(c);
     let g = booking::figures_of(s.larger as u16, s.smaller as u16);
     let loops = g.end as u64;
     PointSums {
@@ -112,17 +111,7 @@ fn put_inner(c: Cell, splits: u32, nodes: &[f64], area: &mut [f64], i: usize) ->
     }
     if fits(area.len(), i, spots_of(c, splits).inner) {
         let at = corners_of(c, nodes);
-        return inner_in(
-            c,
-            at,
-            c.index,
-            0,
-            FIRST_CROSSING,
-            FIRST_FACE,
-            splits,
-            area,
-            i,
-        );
+        return inner_in(c, at, Numbering::of(c), splits, area, i);
     }
     i
 }
@@ -138,17 +127,7 @@ fn put_middles(c: Cell, splits: u32, nodes: &[f64], area: &mut [f64], i: usize) 
     let p = spots_of(c, splits);
     if fits(area.len(), i, p.more + p.loops) {
         let at = corners_of(c, nodes);
-        return centres_in(
-            c,
-            at,
-            c.index,
-            0,
-            FIRST_CROSSING,
-            FIRST_FACE,
-            splits,
-            area,
-            i,
-        );
+        return centres_in(c, at, Numbering::of(c), splits, area, i);
     }
     i
 }

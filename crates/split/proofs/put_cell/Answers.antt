@@ -14,8 +14,8 @@ returns-then-splits-eq0 c = stored_as c.put.ensures (words_whole c.requires.draw
 pub split_in-requires : goal.split_in-requires
 split_in-requires c = let p = c.requires in
     let h : 0 < c.args.splits = omega (arith, c.if-splits-eq0.false) in
-    record { splits_left = drawn_left p.drawable h; c_in_bounds = parts_room p.drawable h c.args.at p.c_in_bounds }
+    rw c.of.ensures (record { splits_left = drawn_left p.drawable h; c_in_bounds = parts_room p.drawable h c.args.at p.c_in_bounds })
 
 pub returns : goal.returns
 returns c = let h : 0 < c.args.splits = omega (arith, c.if-splits-eq0.false) in
-    stored_as c.split_in.ensures (sym (drawn-parts c.requires.drawable h)) refl
+    stored_as (rw c.of.ensures at c.split_in.ensures) (sym (drawn-parts c.requires.drawable h)) refl

@@ -12,8 +12,9 @@ use Rattle.cell.specs.Words.{all_words}
 use Rattle.cell.specs.Triangles.{triangles_with}
 use Rattle.booking.specs.Figures.{splits, inner_crossings}
 use Rattle.booking.specs.Booking.{least_corner, left_between, larger, smaller, is_spiral}
+use Rattle.split.specs.declared.Numbering.{Numbering}
 use Rattle.split.specs.declared.Spiral.{Spiral}
-use Rattle.split.specs.Limits.{word_step}
+use Rattle.split.specs.Limits.{first_inner_crossing, first_inner_face, word_step}
 use Rattle.split.specs.SubCell.{sub}
 use Rattle.split.specs.Parts.{parts, part_triangles, splits_of}
 
@@ -54,6 +55,13 @@ pub record Spiraling (c : Cell) (s : Spiral) : Type 0 where
   pub sound : LevelSix c
   pub numbers : SpiralNumbers c s
   pub spiral : is_spiral (count_of c) ≡ true
+
+-- by what a cell of a grid goes, and the sub-cell nested in a split that goes by g and has so many inner crossings
+abbrev pub first_numbering : Cell → Numbering
+first_numbering c = record { cell = c.index; number = 0; crossing = first_inner_crossing; face = first_inner_face }
+
+abbrev pub nested_numbering : Numbering → ℕ → Numbering
+nested_numbering g inner = record { cell = g.cell; number = g.number + 2; crossing = g.crossing + inner; face = g.face + 6 }
 
 -- a split under way: the cell or sub-cell c with the number n of the cell `cell`, its numbers s, inner crossings from b on and inner faces from f on
 pub record Working (c : Cell) (s : Spiral) (cell n b f : ℕ) : Type 0 where

@@ -17,7 +17,7 @@ inner_in-requires c = let A = c.args in
     let h : 0 < A.splits = omega (arith, c.if-splits-eq0.false) in
     let t = sym c.fits.ensures ∙ c.if-fits.true in
     let e = c.corners_of-at.ensures in
-    record { splits_left = drawn_left D h; c_in_bounds = rw e (inner_room D A.nodes.now A.area.now A.i h c.spots_of.ensures t) }
+    rw c.of.ensures (record { splits_left = drawn_left D h; c_in_bounds = rw e (inner_room D A.nodes.now A.area.now A.i h c.spots_of.ensures t) })
 
 pub returns-then-fits : goal.returns-then-fits
 returns-then-fits c = let A = c.args in
@@ -25,7 +25,7 @@ returns-then-fits c = let A = c.args in
     let h : 0 < A.splits = omega (arith, c.if-splits-eq0.false) in
     let t = sym c.fits.ensures ∙ c.if-fits.true in
     let e = c.corners_of-at.ensures in
-    inner_done D A.nodes.now A.area.now A.i h c.spots_of.ensures t (rw e at c.inner_in.ensures)
+    inner_done D A.nodes.now A.area.now A.i h c.spots_of.ensures t (rw (c.of.ensures, e) at c.inner_in.ensures)
 
 pub returns : goal.returns
 returns c = let A = c.args in

@@ -22,7 +22,7 @@ centres_in-requires c = let A = c.args in
     let h : 0 < A.splits = omega (arith, c.if-splits-eq0.false) in
     let t = sym c.fits.ensures ∙ c.if-fits.true in
     let e = c.corners_of-at.ensures in
-    record { spun = drawn_spun D h; c_in_bounds = rw e (fans_fit D A.nodes.now A.area.now A.i h c.spots_of-p.ensures (middles_at A.nodes.now A.c A.area.now A.i) refl t) }
+    rw c.of.ensures (record { spun = drawn_spun D h; c_in_bounds = rw e (fans_fit D A.nodes.now A.area.now A.i h c.spots_of-p.ensures (middles_at A.nodes.now A.c A.area.now A.i) refl t) })
 
 pub returns-then-fits : goal.returns-then-fits
 returns-then-fits c = let A = c.args in
@@ -30,7 +30,7 @@ returns-then-fits c = let A = c.args in
     let h : 0 < A.splits = omega (arith, c.if-splits-eq0.false) in
     let t = sym c.fits.ensures ∙ c.if-fits.true in
     let e = c.corners_of-at.ensures in
-    fans_done D A.nodes.now A.area.now A.i h c.spots_of-p.ensures (middles_at A.nodes.now A.c A.area.now A.i) refl t (rw e at c.centres_in.ensures)
+    fans_done D A.nodes.now A.area.now A.i h c.spots_of-p.ensures (middles_at A.nodes.now A.c A.area.now A.i) refl t (rw (c.of.ensures, e) at c.centres_in.ensures)
 
 pub returns : goal.returns
 returns c = let A = c.args in

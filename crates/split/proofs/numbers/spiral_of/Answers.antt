@@ -1,8 +1,0 @@
-use Rattle.split.proofs.Coded.{level_listed, numbers_are}
-use Rattle.split.proofs.numbers.spiral_of.Goals as goal
-
-pub own_of-own-requires : goal.own_of-own-requires
-own_of-own-requires c = level_listed c.requires c.taken_of-six.ensures
-
-pub returns : goal.returns
-returns c = numbers_are c.requires c.taken_of-six.ensures c.own_of-own.ensures c.left_of-x.ensures.0 c.left_of-y.ensures.0 c.left_of-z.ensures.0 c.median_of-larger.ensures c.smallest_of-smaller.ensures c.label_of-first.ensures c.label_of-second.ensures c.label_of-third.ensures
