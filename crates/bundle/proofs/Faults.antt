@@ -15,7 +15,7 @@ use Rattle.bundle.specs.Record.{head_bytes, broken_row, kind_at, next_record, is
 use Rattle.bundle.specs.Bundle.{cell_section, edge_section, look_section, end_section, section_at, is_of, record_start, run, cells, edges_from, edges, looks_from, looks, edge_at, look_at, stop, same_pair, is_for, is_stray, first_stray, stray_row, bundle_answer}
 use Rattle.bundle.specs.claims.Fault.{AllWhole, section_by, Fault, broken, disordered, trailing, endless, Stray}
 use Rattle.bundle.specs.claims.Claims.{LowestFault, NoFault, LowestStray, NoStray, StrayRefused}
-use Rattle.bundle.proofs.OneRecord.{Kind, cell, edge, wide, look, end, kind_cases, apart, stands, next_ge}
+use Rattle.bundle.proofs.OneRecord.{KindCase, cell, edge, wide, look, end, kind_cases, apart, stands, next_ge}
 use Rattle.bundle.proofs.Runs.{of_record, of_section, is-of, run_all, run_stop, run_inside}
 use Rattle.bundle.proofs.Answers.{Case, unended, more, stray, whole, case_of, bundled, answer_open, answer_after, answer_stray, answer_lists, accepted}
 
@@ -254,7 +254,7 @@ module _ (s : List ℕ) where
       go : (b : Bool) → is_record s (stop s) ≡ b → Fault s (stop s)
       go true w = known (section_at s (stop s)) refl (kind_cases _ (stands s (stop s) w).known)
         where
-          known : (section : ℕ) → section_at s (stop s) ≡ section → Kind (kind_at s (stop s)) section → Fault s (stop s)
+          known : (section : ℕ) → section_at s (stop s) ≡ section → KindCase (kind_at s (stop s)) section → Fault s (stop s)
           known _ e (cell _) = cell_fault w e
           known _ e (edge _) = edge_fault w e
           known _ e (wide _) = edge_fault w e

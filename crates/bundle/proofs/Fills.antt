@@ -17,7 +17,7 @@ use Rattle.counting.proofs.Stored.{stored_one, stored_more, stored_front}
 use Rattle.bundle.specs.Record.{cell_kind, edge_kind, end_kind, wide_kind, look_kind, word_size, head_bytes, count_place, word, length_of, kind_at, count_at, is_wide, may_have, next_record, is_record, body}
 use Rattle.bundle.specs.work.Record.{cell_size, edge_size, end_size, look_size}
 use Rattle.bundle.specs.Bundle.{cell_section, edge_section, look_section, end_section, is_of, record_start, cells, edges_from, edges, looks_from, looks, edge_at, stop, is_for, count_from, count_after, is_bundle, cell_nodes, edge_ends, leading_words, count_in, surviving, nodes_of, ends_of, counts_of, written_over}
-use Rattle.bundle.proofs.OneRecord.{Kind, cell, edge, wide, look, end, kind_cases, stands, body_whole, body_length}
+use Rattle.bundle.proofs.OneRecord.{KindCase, cell, edge, wide, look, end, kind_cases, stands, body_whole, body_length}
 use Rattle.bundle.proofs.Runs.{body_of, of_record, of_section, run_apart}
 use Rattle.bundle.proofs.Answers.{bundled}
 
@@ -33,8 +33,8 @@ body_word s at r j l =
 
 -- a record of a section has one of its kinds, and its body is as long as the kind says: the nodes of a cell; the ends of an edge and a byte, or two
 module _ (s : List ℕ) (at : ℕ) where
-  kind-at : (section : ℕ) → is_of s section at ≡ true → Kind (kind_at s at) section
-  kind-at section h = subst (Kind (kind_at s at)) (of_section s section at h) (kind_cases _ (stands s at (of_record s section at h)).known)
+  kind-at : (section : ℕ) → is_of s section at ≡ true → KindCase (kind_at s at) section
+  kind-at section h = subst (KindCase (kind_at s at)) (of_section s section at h) (kind_cases _ (stands s at (of_record s section at h)).known)
 
   pub cell-kind : is_of s cell_section at ≡ true → kind_at s at ≡ cell_kind
   cell-kind h = elim (kind-at cell_section h) [ cell e ↦ e ]
@@ -74,7 +74,7 @@ module _ (s : List ℕ) (at : ℕ) where
   unfolding length_of may_have
   edge-body h = go (kind-at edge_section h)
     where
-      go : Kind (kind_at s at) edge_section → Edge
+      go : KindCase (kind_at s at) edge_section → Edge
       go (edge e) = one_byte e (omega (arith, length_at edge_kind e edge_section h))
       go (wide e) =
           let n : length (body s at) ≡ count_place + word_size = omega (arith, length_at wide_kind e edge_section h) in

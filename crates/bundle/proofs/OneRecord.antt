@@ -6,26 +6,30 @@ use mathlib.Core.List.{List, [], ◌∷◌}
 use native.Mathlib.Decide.{dec_lt}
 use native.Mathlib.Omega.{arith}
 use lib.Dec.{ltb, leb, eqb}
-use lib.ListN.{length, take, drop, length-take, length-drop}
-use borrow.Author.Tests.{ltb-true, leb-true, eqb-true, lt-ltb, le-ltb, le-leb, eq-eqb}
+use lib.ListN.{length, get_or, take, drop, length-take, length-drop}
+use borrow.Author.Tests.{ltb-true, leb-true, eqb-true, lt-ltb, le-ltb, le-leb, eq-eqb, ne_eqb}
 use Rattle.answer.specs.Answer.{result_of, refusal}
 use Rattle.counting.specs.Pick.{pick}
 use Rattle.counting.proofs.Bools.{clash, and_left, and_right, not_clash}
-use Rattle.bundle.specs.Record.{cell_kind, edge_kind, end_kind, wide_kind, look_kind, word_size, length_bytes, head_bytes, cell_length, edge_length, end_length, wide_length, look_length, word, length_of, kind_at, next_record, count_at, may_have, is_record, record_answer, broken_row, body, body_size, body_start}
-use Rattle.bundle.specs.Bundle.{cell_section, edge_section, look_section, end_section, section_of}
+use Rattle.bundle.specs.Record.{cell_kind, edge_kind, end_kind, wide_kind, look_kind, kind_number, word_size, length_bytes, head_bytes, cell_length, edge_length, end_length, wide_length, look_length, word, length_of, kind_at, next_record, count_at, may_have, is_record, record_answer, broken_row, body, body_size, body_start}
+use Rattle.bundle.specs.Bundle.{cell_section, edge_section, look_section, end_section, section_of, section_number}
+use Rattle.bundle.specs.declared.kinds.Kind.{Kind}
+use Rattle.bundle.specs.declared.kinds.Kind.TheVariants.{Cell, Edge, End, Wide, Look}
+use Rattle.bundle.specs.declared.kinds.Section.{Section}
+use Rattle.bundle.specs.declared.kinds.Section.TheVariants.{Cells, Edges, Looks, End as Last}
 use Rattle.bundle.specs.work.Needed.{WideLent}
 
 -- a kind with a length is one of five, each in its section
-pub data Kind (k : ℕ) : ℕ → Type 0 where
-  cell : k ≡ cell_kind → Kind k cell_section
-  edge : k ≡ edge_kind → Kind k edge_section
-  wide : k ≡ wide_kind → Kind k edge_section
-  look : k ≡ look_kind → Kind k look_section
-  end : k ≡ end_kind → Kind k end_section
+pub data KindCase (k : ℕ) : ℕ → Type 0 where
+  cell : k ≡ cell_kind → KindCase k cell_section
+  edge : k ≡ edge_kind → KindCase k edge_section
+  wide : k ≡ wide_kind → KindCase k edge_section
+  look : k ≡ look_kind → KindCase k look_section
+  end : k ≡ end_kind → KindCase k end_section
 
 kind_pick : (k : ℕ) (a b c d e : Bool) → eqb k cell_kind ≡ a → eqb k edge_kind ≡ b → eqb k end_kind ≡ c → eqb k wide_kind ≡ d → eqb k look_kind ≡ e
     → 0 < pick a cell_length (pick b edge_length (pick c end_length (pick d wide_length (pick e look_length 0))))
-    → Kind k (pick a cell_section (pick b edge_section (pick d edge_section (pick e look_section (pick c end_section 0)))))
+    → KindCase k (pick a cell_section (pick b edge_section (pick d edge_section (pick e look_section (pick c end_section 0)))))
 kind_pick k true b c d e ea eb ec ed ee h = cell (eqb-true _ _ ea)
 kind_pick k false true c d e ea eb ec ed ee h = edge (eqb-true _ _ eb)
 kind_pick k false false c true e ea eb ec ed ee h = wide (eqb-true _ _ ed)
@@ -33,7 +37,7 @@ kind_pick k false false c false true ea eb ec ed ee h = look (eqb-true _ _ ee)
 kind_pick k false false true false false ea eb ec ed ee h = end (eqb-true _ _ ec)
 kind_pick k false false false false false ea eb ec ed ee h = absurd (omega (arith, h))
 
-pub kind_cases : (k : ℕ) → 0 < length_of k → Kind k (section_of k)
+pub kind_cases : (k : ℕ) → 0 < length_of k → KindCase k (section_of k)
 unfolding length_of section_of
 kind_cases k h = kind_pick k (eqb k cell_kind) (eqb k edge_kind) (eqb k end_kind) (eqb k wide_kind) (eqb k look_kind) refl refl refl refl refl h
 
@@ -42,12 +46,48 @@ pub length_ge : (kind : ℕ) → 0 < length_of kind → word_size ≤ length_of 
 unfolding length_of
 length_ge kind h = go (section_of kind) (kind_cases kind h)
   where
-    go : (section : ℕ) → Kind kind section → word_size ≤ length_of kind
+    go : (section : ℕ) → KindCase kind section → word_size ≤ length_of kind
     go _ (cell e) = omega (arith, ap length_of e)
     go _ (edge e) = omega (arith, ap length_of e)
     go _ (wide e) = omega (arith, ap length_of e)
     go _ (look e) = omega (arith, ap length_of e)
     go _ (end e) = omega (arith, ap length_of e)
+
+-- a number of none of them has none
+pub unknown_length : (k : ℕ) → (k ≡ cell_kind → ⊥) → (k ≡ edge_kind → ⊥) → (k ≡ end_kind → ⊥) → (k ≡ wide_kind → ⊥) → (k ≡ look_kind → ⊥) → length_of k ≡ 0
+unfolding length_of
+unknown_length k a b c d e = simp (ne_eqb _ _ a, ne_eqb _ _ b, ne_eqb _ _ c, ne_eqb _ _ d, ne_eqb _ _ e)
+
+-- and a kind has one
+pub kind_known : (k : Kind) → length_of (kind_number k) ≡ 0 → ⊥
+unfolding length_of
+kind_known Cell e = omega (arith, e)
+kind_known Edge e = omega (arith, e)
+kind_known End e = omega (arith, e)
+kind_known Wide e = omega (arith, e)
+kind_known Look e = omega (arith, e)
+
+-- a section by its number
+abbrev sections : List Section
+sections = Cells ∷ Edges ∷ Looks ∷ Last ∷ []
+
+section_back : (k : Section) → get_or sections (section_number k - 1) Cells ≡ k
+section_back Cells = refl
+section_back Edges = refl
+section_back Looks = refl
+section_back Last = refl
+
+pub section_tells : (k l : Section) → section_number k ≡ section_number l → k ≡ l
+section_tells k l e = sym (section_back k) ∙ ap (λ n. get_or sections (n - 1) Cells) e ∙ section_back l
+
+-- a kind but that of wide edges has any count
+pub may_other : (kind : Kind) (count : ℕ) → (kind ≡ Wide → ⊥) → true ≡ may_have (kind_number kind) count
+unfolding may_have
+may_other Cell count h = refl
+may_other Edge count h = refl
+may_other End count h = refl
+may_other Wide count h = absurd (h refl)
+may_other Look count h = refl
 
 -- the five parts of `is_record`
 pub record Stands (s : List ℕ) (at : ℕ) : Type 0 where

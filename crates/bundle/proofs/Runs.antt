@@ -1,8 +1,9 @@
 -- Records of one section that stand one after the other. Assumes nothing.
+use Rattle.std.specs.Prelude.{Some, None}
 use Prim.Native.Nat.{ℕ, zero, suc, ◌+◌, ◌*◌, ◌≤◌, ◌<◌}
 use mathlib.Core.Path.{◌≡◌, refl, sym, ap, ◌∙◌}
 use mathlib.Core.Logic.{⊎_elim}
-use mathlib.Core.Bool.{true, false, not}
+use mathlib.Core.Bool.{Bool, true, false, not}
 use mathlib.Core.List.{List}
 use native.Mathlib.Nat.{le_refl, mul-zero, mul-suc}
 use native.Mathlib.Numerals.{add-one}
@@ -10,10 +11,12 @@ use native.Mathlib.Omega.{arith}
 use lib.Dec.{eqb}
 use lib.ListN.{length}
 use borrow.Author.Tests.{eqb-true, eq-eqb, ne_eqb, not-true, not-false}
+use Rattle.counting.specs.Pick.{pick}
 use Rattle.counting.proofs.Bools.{and_left, and_right, and_true, and_false_left, and_false_right}
 use Rattle.counting.proofs.Search.{first_at, first_is, first_below, below-or}
 use Rattle.bundle.specs.Record.{word_size, length_bytes, head_bytes, length_of, kind_at, next_record, is_record, body}
 use Rattle.bundle.specs.Bundle.{section_at, is_of, record_start, run}
+use Rattle.bundle.specs.work.Needed.{next_in}
 use Rattle.bundle.proofs.OneRecord.{stands, next_ge, body_length}
 
 module _ (s : List ℕ) (at : ℕ) (h : is_record s at ≡ true) where
@@ -47,6 +50,31 @@ module _ (s : List ℕ) (section at : ℕ) where
   pub other_of : (section_at s at ≡ section → ⊥) → is_of s section at ≡ false
   unfolding is_of
   other_of h = and_false_right (is_record s at) (eqb (section_at s at) section) (ne_eqb _ _ h)
+
+  -- where the next one starts, if it is one of the section
+  pub next_some : is_of s section at ≡ true → Some (next_record s at) ≡ next_in s section at
+  unfolding next_in
+  next_some h = sym (simp h)
+
+  pub next_none : is_of s section at ≡ false → None ≡ next_in s section at
+  unfolding next_in
+  next_none h = sym (simp h)
+
+  pub some_next : (next : ℕ) → Some next ≡ next_in s section at → (is_of s section at ≡ true) × (next ≡ next_record s at)
+  unfolding next_in
+  some_next next h = go (is_of s section at) h
+    where
+      go : (b : Bool) → Some next ≡ pick b (Some (next_record s at)) None → (b ≡ true) × (next ≡ next_record s at)
+      go true e = (refl, cc)
+      go false e = cc
+
+  pub none_next : None ≡ next_in s section at → is_of s section at ≡ false
+  unfolding next_in
+  none_next h = go (is_of s section at) h
+    where
+      go : (b : Bool) → None ≡ pick b (Some (next_record s at)) None → b ≡ false
+      go true e = cc
+      go false e = refl
 
 -- a walk over records of a section, which came to a place after some of them
 pub record Going (s : List ℕ) (from section at count : ℕ) : Type 0 where

@@ -98,7 +98,7 @@ module _ (nodes ends counts : List ℕ) where
 
   -- the cases of the answer, with the area that each leaves
   module _ (area : List ℕ) where
-    abbrev Left : (answer area' : List ℕ) → Type 0
+    abbrev pub Left : (answer area' : List ℕ) → Type 0
     Left answer area' = (answer ≡ write_answer nodes ends counts (length area)) × (area' ≡ area_left nodes ends counts area)
 
     unformed : is_formed nodes ends counts ≡ false → Left (refusal broken_row 0) area

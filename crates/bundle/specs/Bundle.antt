@@ -1,12 +1,15 @@
 -- A bundle (01, and 02's W7): cells, then edges, then later looks at edges, then one end. What the reader answers, and the lists that the bytes mean.
-use Rattle.std.specs.Prelude.{ℕ, zero, suc, ◌*◌, Bool, not, ◌&&◌, List, [], ◌∷◌, ◌++◌, ltb, leb, eqb, length, drop}
+use Rattle.std.specs.Prelude.{ℕ, zero, suc, ◌*◌, Bool, not, ◌&&◌, List, [], ◌∷◌, ◌++◌, Result, ltb, leb, eqb, length, drop}
 use Rattle.answer.specs.Answer.{result_of, refusal}
+use Rattle.answer.specs.Refusal.{answer_numbers}
+use Rattle.answer.specs.declared.Refusal.{Refusal}
 use Rattle.counting.specs.Pick.{pick}
 use Rattle.counting.specs.Lists.{over, values}
 use Rattle.counting.specs.Search.{first, last, some}
 use Rattle.bundle.specs.Record.{cell_kind, edge_kind, end_kind, wide_kind, look_kind, broken_row, word_size, count_place, word, kind_at, next_record, is_record, body}
-use Rattle.bundle.specs.declared.Contents.{Contents}
-use Rattle.bundle.specs.declared.Contents.TheVariants.{Lists, Refused}
+use Rattle.bundle.specs.declared.kinds.Section.{Section}
+use Rattle.bundle.specs.declared.kinds.Section.TheVariants.{Cells, Edges, Looks, End}
+use Rattle.bundle.specs.declared.reader.Lists.{Lists}
 
 -- the rows of the table of refusals that speak of short lists, and of looks for no edge (02, W7)
 abbrev pub short_row : ℕ
@@ -27,6 +30,13 @@ look_section = 3
 
 abbrev pub end_section : ℕ
 end_section = 4
+
+-- the number of a section in that order
+abbrev pub section_number : Section → ℕ
+section_number Cells = cell_section
+section_number Edges = edge_section
+section_number Looks = look_section
+section_number End = end_section
 
 -- the section that records of a kind stand in; 0 where the number is no kind
 unfoldable pub section_of : ℕ → ℕ
@@ -179,7 +189,6 @@ module _ (s nodes ends counts : List ℕ) where
   abbrev pub counts_left : List ℕ
   counts_left = leaves (is_taken s (length nodes) (length ends) (length counts)) (counts_of s) counts
 
--- the enum's cases as document 01's numbers
-abbrev pub contents_numbers : Contents → List ℕ
-contents_numbers (Lists cells edges) = result_of (cells ∷ edges ∷ [])
-contents_numbers (Refused number place) = refusal number place
+-- what the reader answers, as document 01's numbers
+abbrev pub contents_numbers : Result Lists Refusal → List ℕ
+contents_numbers = answer_numbers (λ l. l.cells ∷ l.edges ∷ [])

@@ -1,9 +1,13 @@
 -- One record of a bundle (01): what stands at a start, and its body. Bytes are numbers below 256, and a number of 16 bits has its low byte first.
-use Rattle.std.specs.Prelude.{ℕ, ◌+◌, ◌-◌, ◌*◌, Bool, true, ◌&&◌, List, [], ◌∷◌, ltb, leb, eqb, length, get_or, take, drop}
+use Rattle.std.specs.Prelude.{ℕ, ◌+◌, ◌-◌, ◌*◌, ◌≡◌, Bool, true, ◌&&◌, List, [], ◌∷◌, Result, MatchResult, ltb, leb, eqb, length, get_or, take, drop}
 use Rattle.answer.specs.Answer.{result_of, refusal}
+use Rattle.answer.specs.Refusal.{answer_numbers}
+use Rattle.answer.specs.declared.Refusal.{Refusal}
 use Rattle.counting.specs.Pick.{pick}
-use Rattle.bundle.specs.declared.Record.{Record}
-use Rattle.bundle.specs.declared.Record.TheVariants.{Whole, Refused}
+use Rattle.bundle.specs.declared.kinds.Kind.{Kind}
+use Rattle.bundle.specs.declared.kinds.Kind.TheVariants.{Cell, Edge, End, Wide, Look}
+use Rattle.bundle.specs.declared.kinds.UnknownKind.{UnknownKind}
+use Rattle.bundle.specs.declared.records.Record.{Record}
 
 -- the values of a byte
 abbrev pub byte_values : ℕ
@@ -29,6 +33,14 @@ wide_kind = 4
 
 abbrev pub look_kind : ℕ
 look_kind = 5
+
+-- the number of a kind
+abbrev pub kind_number : Kind → ℕ
+kind_number Cell = cell_kind
+kind_number Edge = edge_kind
+kind_number End = end_kind
+kind_number Wide = wide_kind
+kind_number Look = look_kind
 
 -- the bytes of a number of 16 bits; of the length; and of length and kind, which stand before the body
 abbrev pub word_size : ℕ
@@ -59,6 +71,10 @@ look_length = 8
 -- the length that a record of a kind has; 0 where the number is no kind
 unfoldable pub length_of : ℕ → ℕ
 length_of kind = pick (eqb kind cell_kind) cell_length (pick (eqb kind edge_kind) edge_length (pick (eqb kind end_kind) end_length (pick (eqb kind wide_kind) wide_length (pick (eqb kind look_kind) look_length 0))))
+
+-- the result is the kind with this number, or the number, which no kind has
+abbrev pub Names : ℕ → Result Kind UnknownKind → Type 0
+Names number r = MatchResult r (λ kind. kind_number kind ≡ number) (λ e. (e.0 ≡ number) × (length_of number ≡ 0))
 
 -- the number of 16 bits at a place
 abbrev pub word : List ℕ → ℕ → ℕ
@@ -113,7 +129,6 @@ body_size s at = pick (is_record s at) (next_record s at - (at + head_bytes)) 0
 unfoldable pub body : List ℕ → ℕ → List ℕ
 body s at = take (body_size s at) (drop (body_start s at) s)
 
--- the enum's cases as document 01's numbers
-abbrev pub record_numbers : Record → List ℕ
-record_numbers (Whole kind next) = result_of (kind ∷ next ∷ [])
-record_numbers (Refused number place) = refusal number place
+-- what the record reader answers, as document 01's numbers
+abbrev pub record_numbers : Result Record Refusal → List ℕ
+record_numbers = answer_numbers (λ r. kind_number r.kind ∷ r.next ∷ [])

@@ -1,12 +1,12 @@
 -- The bytes of a bundle, and what the writer answers.
-use Rattle.std.specs.Prelude.{ℕ, ◌+◌, ◌*◌, ◌/◌, ◌%◌, min, Bool, ◌&&◌, List, [], ◌∷◌, ◌++◌, leb, eqb, length, get_or}
+use Rattle.std.specs.Prelude.{ℕ, ◌+◌, ◌*◌, ◌/◌, ◌%◌, min, Bool, ◌&&◌, List, [], ◌∷◌, ◌++◌, Result, leb, eqb, length, get_or}
 use Rattle.answer.specs.Answer.{result_of, refusal}
+use Rattle.answer.specs.Refusal.{answer_numbers}
+use Rattle.answer.specs.declared.Refusal.{Refusal}
 use Rattle.counting.specs.Pick.{pick}
 use Rattle.counting.specs.Lists.{over}
 use Rattle.bundle.specs.Record.{byte_values, cell_kind, edge_kind, end_kind, wide_kind, length_of, is_wide, broken_row}
 use Rattle.bundle.specs.Bundle.{cell_nodes, edge_ends, short_row, leaves}
-use Rattle.bundle.specs.declared.Written.{Written}
-use Rattle.bundle.specs.declared.Written.TheVariants.{Bytes, Unformed, Short}
 
 -- the greatest number of bytes that a refusal names
 abbrev pub most_named : ℕ
@@ -72,8 +72,6 @@ write_answer nodes ends counts area =
 abbrev pub area_left : (nodes ends counts area : List ℕ) → List ℕ
 area_left nodes ends counts area = leaves (is_written nodes ends counts (length area)) (bundle_bytes nodes ends counts) area
 
--- the enum's cases as document 01's numbers
-abbrev pub written_numbers : Written → List ℕ
-written_numbers (Bytes number) = result_of (number ∷ [])
-written_numbers Unformed = refusal broken_row 0
-written_numbers (Short needed) = refusal short_row needed
+-- what the writer answers, as document 01's numbers
+abbrev pub written_numbers : Result ℕ Refusal → List ℕ
+written_numbers = answer_numbers (λ n. n ∷ [])

@@ -1,13 +1,13 @@
 // Later looks at edges: the lowest that is for no edge, and the counts that survive. Looks are taken in blocks. Those of a block stand in trees, by
 // their pairs' keys: the remainder of a key chooses the tree, and at each look on the way down two more bits of the key choose one of four branches.
 // A key has 32 bits, so that an edge finds the last look of a block that is for it in 17 steps at most, whatever the pairs are.
-ghost use Rattle.std.specs.Prelude.{◌≡◌, ◌+◌, min, true};
-ghost use Rattle.counting.specs.Search.{first};
+ghost use Rattle.std.specs.Prelude.{◌≡◌, ◌+◌, true};
+ghost use Rattle.counting.specs.Search.{found};
 ghost use Rattle.counting.specs.Stored.{filled};
 ghost use Rattle.bundle.specs.Record.{next_record, is_record};
-ghost use Rattle.bundle.specs.Bundle.{edges, looks, is_stray, first_stray, count_after};
+ghost use Rattle.bundle.specs.Bundle.{edges, looks, is_stray, count_after};
 ghost use Rattle.trees.specs.work.Trees.{Tree, Tops, top_for, Sought};
-ghost use Rattle.bundle.specs.work.Looked.{block_looks, look_branches, key_at, look_key, block_key, EndsWithin, LookIn, Searched, Planting, Growing, MarksLent, KeysMarked, MarksRead, top_unmet, BlockLent, LooksLent, Counted, PlaceIn, count_or, CountsLent};
+ghost use Rattle.bundle.specs.work.Looked.{look_branches, key_at, look_key, block_key, EndsWithin, LookIn, Searched, Planting, Growing, MarksLent, KeysMarked, MarksRead, top_unmet, BlockLent, LooksLent, Counted, PlaceIn, count_or, CountsLent};
 
 use crate::records::{COUNT_PLACE, HEAD_BYTES, LOOK_BYTES, WORD_BYTES, word_at};
 use trees::TREES;
@@ -20,19 +20,13 @@ const BRANCHES: usize = 4;
 
 const LINKS: usize = TREES + BRANCHES * BLOCK;
 
-fn wide(x: u16) -> usize
-    ensures { result ≡ x }
-{
-    x as usize
-}
-
 // The pair of the record at a place, in one number.
 fn key_at(bytes: &[u8], at: usize) -> usize
     requires { EndsWithin bytes.now at }
     ensures { result ≡ key_at bytes.now at }
 {
-    let u = wide(word_at(bytes, at + HEAD_BYTES));
-    let v = wide(word_at(bytes, at + HEAD_BYTES + WORD_BYTES));
+    let u = word_at(bytes, at + HEAD_BYTES) as usize;
+    let v = word_at(bytes, at + HEAD_BYTES + WORD_BYTES) as usize;
     u * 65536 + v
 }
 
@@ -41,7 +35,7 @@ fn next_at(bytes: &[u8], at: usize) -> usize
     requires { is_record bytes.now at ≡ true }
     ensures { result ≡ next_record bytes.now at }
 {
-    at + WORD_BYTES + wide(word_at(bytes, at))
+    at + WORD_BYTES + word_at(bytes, at) as usize
 }
 
 // The key of look k; the looks start at base.
@@ -68,14 +62,14 @@ fn seek(
 {
     let mut at = key % TREES;
     let mut rest = key;
-    let mut j = wide(links[at]);
+    let mut j = links[at] as usize;
     while 0 < j {
         if look_key(bytes, base, m + (j - 1)) == key {
             return at;
         }
         at = TREES + BRANCHES * (j - 1) + rest % BRANCHES;
         rest = rest / BRANCHES;
-        j = wide(links[at]);
+        j = links[at] as usize;
     }
     at
 }
@@ -89,7 +83,7 @@ fn plant(bytes: &[u8], base: usize, m: usize, n: usize, i: usize, links: &mut [u
 {
     let key = look_key(bytes, base, m + i);
     let at = seek(bytes, base, m, n, i + 1, links, key);
-    let p = wide(links[at]);
+    let p = links[at] as usize;
     if 0 < p {
         return p;
     }
@@ -117,7 +111,7 @@ fn latest(bytes: &[u8], base: usize, m: usize, n: usize, links: &[u16], key: usi
     ensures { result ≡ top_for (block_key bytes.now m) n key }
 {
     let at = seek(bytes, base, m, n, 0, links, key);
-    wide(links[at])
+    links[at] as usize
 }
 
 // Marks the last look of each key that an edge has; mark 0 stands for no look.
@@ -135,37 +129,39 @@ fn mark(
     ensures { KeysMarked bytes.now m n met.new }
 {
     let mut at = from;
-    let mut k: usize = 0;
-    while k < count {
+    for k in 0..count {
         let key = key_at(bytes, at);
         let p = latest(bytes, base, m, n, links, key);
         met[p] = 1;
         at = next_at(bytes, at);
-        k += 1;
     }
 }
 
-// The lowest of n places whose last look with the same key has no mark; n where there is none.
-fn unmet(tops: &[u16], n: usize, met: &[u8]) -> usize
+// The lowest of n places whose last look with the same key has no mark.
+fn unmet(tops: &[u16], n: usize, met: &[u8]) -> Option<usize>
     requires { MarksRead tops.now n met.now }
-    ensures { result ≡ first (top_unmet tops.now met.now) n }
+    ensures { result ≡ found (top_unmet tops.now met.now) n }
 {
-    let mut j: usize = 0;
-    while j < n {
-        let p = wide(tops[j]);
-        if met[p] == 0 {
-            return j;
+    for j in 0..n {
+        if met[tops[j] as usize] == 0 {
+            return Some(j);
         }
-        j += 1;
     }
-    n
+    None
 }
 
-// The lowest of n looks from look m on that is for no edge, counted from m; n where there is none. The edges start at from, the looks at base.
+// The lowest of n looks from look m on that is for no edge, counted from m. The edges start at from, the looks at base.
 // Keeps 148 KB on the stack.
-fn stray_in(bytes: &[u8], from: usize, count: usize, base: usize, m: usize, n: usize) -> usize
+fn stray_in(
+    bytes: &[u8],
+    from: usize,
+    count: usize,
+    base: usize,
+    m: usize,
+    n: usize,
+) -> Option<usize>
     requires { BlockLent bytes.now from count base m n }
-    ensures { result ≡ first (λ j. is_stray bytes.now (m + j)) n }
+    ensures { result ≡ found (λ j. is_stray bytes.now (m + j)) n }
 {
     let mut links = [0u16; LINKS];
     let mut tops = [0u16; BLOCK];
@@ -175,31 +171,26 @@ fn stray_in(bytes: &[u8], from: usize, count: usize, base: usize, m: usize, n: u
     unmet(&tops, n, &met)
 }
 
-// As many as are left, and at most a block.
-fn block_of(left: usize) -> usize
-    ensures { result ≡ min left block_looks }
-{
-    if left < BLOCK {
-        return left;
-    }
-    BLOCK
-}
-
-// The lowest look that is for no edge; the number of looks where there is none.
-pub(crate) fn first_stray(bytes: &[u8], from: usize, count: usize, base: usize, n: usize) -> usize
+// The lowest look that is for no edge.
+pub(crate) fn first_stray(
+    bytes: &[u8],
+    from: usize,
+    count: usize,
+    base: usize,
+    n: usize,
+) -> Option<usize>
     requires { LooksLent bytes.now from count base n }
-    ensures { result ≡ first_stray bytes.now }
+    ensures { result ≡ found (is_stray bytes.now) (looks bytes.now) }
 {
     let mut m: usize = 0;
     while m < n {
-        let size = block_of(n - m);
-        let j = stray_in(bytes, from, count, base, m, size);
-        if j < size {
-            return m + j;
+        let size = (n - m).min(BLOCK);
+        if let Some(j) = stray_in(bytes, from, count, base, m, size) {
+            return Some(m + j);
         }
         m += size;
     }
-    n
+    None
 }
 
 // The count from look m + p - 1, or the one that is given where p is 0.
@@ -208,12 +199,13 @@ fn count_from(bytes: &[u8], base: usize, m: usize, p: usize, given: u16) -> u16
     ensures { result ≡ count_or bytes.now m p given }
 {
     if p == 0 {
-        return given;
+        given
+    } else {
+        word_at(
+            bytes,
+            base + LOOK_BYTES * (m + p - 1) + HEAD_BYTES + COUNT_PLACE,
+        )
     }
-    word_at(
-        bytes,
-        base + LOOK_BYTES * (m + p - 1) + HEAD_BYTES + COUNT_PLACE,
-    )
 }
 
 // Puts the counts of n looks from look m on, which are planted, into the list.
@@ -231,14 +223,12 @@ fn put_counts(
     ensures { counts.new ≡ filled (count_after bytes.now (m + n)) (edges bytes.now) counts.old }
 {
     let mut at = from;
-    let mut k: usize = 0;
-    while k < count {
+    for k in 0..count {
         let key = key_at(bytes, at);
         let p = latest(bytes, base, m, n, links, key);
         let given = counts[k];
         counts[k] = count_from(bytes, base, m, p, given);
         at = next_at(bytes, at);
-        k += 1;
     }
 }
 
@@ -277,7 +267,7 @@ pub(crate) fn replace(
 {
     let mut m: usize = 0;
     while m < n {
-        let size = block_of(n - m);
+        let size = (n - m).min(BLOCK);
         replace_in(bytes, from, count, base, m, size, counts);
         m += size;
     }

@@ -2,16 +2,16 @@
 ghost use Rattle.std.specs.Prelude.{◌≡◌, ◌+◌, ◌*◌, ◌/◌, ◌%◌, ◌≤◌, min, leb, length};
 ghost use Rattle.counting.specs.Lists.{one, over};
 ghost use Rattle.counting.specs.work.Stored.{Stored};
-ghost use Rattle.bundle.specs.Record.{byte_values, word_size, head_bytes, is_wide};
+ghost use Rattle.bundle.specs.Record.{byte_values, word_size, head_bytes, kind_number};
 ghost use Rattle.bundle.specs.Bundle.{cell_nodes};
 ghost use Rattle.bundle.specs.Written.{most_named, word_bytes, head_of, list_bytes, kind_for, count_bytes, cell_bytes, edge_bytes, write_answer, area_left, written_numbers};
 ghost use Rattle.bundle.specs.work.Needed.{wides, bundle_size, ListFits, CellFits, EdgeFits, CellsFit, EdgesFit};
 
-use crate::Written;
+use crate::kinds::Kind;
 use crate::records::{
-    BYTE_VALUES, CELL, CELL_BYTES, CELL_NODES, EDGE, EDGE_BYTES, EDGE_ENDS, END, END_BYTES, WIDE,
-    WORD_BYTES, length_of,
+    BYTE_VALUES, CELL_BYTES, CELL_NODES, EDGE_BYTES, EDGE_ENDS, END_BYTES, WORD_BYTES,
 };
+use answer::{Refusal, Row};
 
 // The greatest number of bytes that a refusal names.
 const MOST: usize = 4294967295;
@@ -38,13 +38,12 @@ fn put_word(area: &mut [u8], at: usize, x: u16) -> usize
 }
 
 // The length and the kind of a record.
-fn put_head(area: &mut [u8], at: usize, kind: u16) -> usize
+fn put_head(area: &mut [u8], at: usize, kind: Kind) -> usize
     requires { at + head_bytes ≤ length area.old }
-    ensures { Stored area.old at (head_of kind) area.new result }
+    ensures { Stored area.old at (head_of (kind_number kind)) area.new result }
 {
-    let length = length_of(kind);
-    let next = put_word(area, at, length);
-    put_word(area, next, kind)
+    let next = put_word(area, at, kind.length());
+    put_word(area, next, kind.number())
 }
 
 // The n numbers of a list from a place on.
@@ -53,11 +52,8 @@ fn put_words(area: &mut [u8], at: usize, list: &[u16], from: usize, n: usize) ->
     ensures { Stored area.old at (list_bytes list.now from n) area.new result }
 {
     let mut next = at;
-    let mut i: usize = 0;
-    while i < n {
-        let x = list[from + i];
-        next = put_word(area, next, x);
-        i += 1;
+    for i in 0..n {
+        next = put_word(area, next, list[from + i]);
     }
     next
 }
@@ -67,18 +63,19 @@ fn put_cell(area: &mut [u8], at: usize, nodes: &[u16], k: usize) -> usize
     requires { CellFits area.old at nodes.now k }
     ensures { Stored area.old at (cell_bytes nodes.now k) area.new result }
 {
-    let body = put_head(area, at, CELL);
+    let body = put_head(area, at, Kind::Cell);
     put_words(area, body, nodes, CELL_NODES * k, CELL_NODES)
 }
 
 // The kind of an edge with a count.
-fn kind_for(count: u16) -> u16
-    ensures { result ≡ kind_for count }
+fn kind_for(count: u16) -> Kind
+    ensures { kind_number result ≡ kind_for count }
 {
     if BYTE_VALUES <= count {
-        return WIDE;
+        Kind::Wide
+    } else {
+        Kind::Edge
     }
-    EDGE
 }
 
 // The bytes of a count.
@@ -89,7 +86,7 @@ fn put_count(area: &mut [u8], at: usize, count: u16) -> usize
     if BYTE_VALUES <= count {
         return put_word(area, at, count);
     }
-    area[at] = low(count);
+    area[at] = count as u8;
     at + 1
 }
 
@@ -99,8 +96,7 @@ fn put_edge(area: &mut [u8], at: usize, ends: &[u16], counts: &[u16], k: usize) 
     ensures { Stored area.old at (edge_bytes ends.now counts.now k) area.new result }
 {
     let count = counts[k];
-    let kind = kind_for(count);
-    let body = put_head(area, at, kind);
+    let body = put_head(area, at, kind_for(count));
     let next = put_words(area, body, ends, EDGE_ENDS * k, EDGE_ENDS);
     put_count(area, next, count)
 }
@@ -112,10 +108,8 @@ fn put_cells(nodes: &[u16], area: &mut [u8]) -> usize
 {
     let n = nodes.len() / CELL_NODES;
     let mut at: usize = 0;
-    let mut k: usize = 0;
-    while k < n {
+    for k in 0..n {
         at = put_cell(area, at, nodes, k);
-        k += 1;
     }
     at
 }
@@ -126,22 +120,10 @@ fn put_edges(ends: &[u16], counts: &[u16], from: usize, area: &mut [u8]) -> usiz
     ensures { Stored area.old from (over (edge_bytes ends.now counts.now) (length counts.now) 0) area.new result }
 {
     let mut at = from;
-    let mut k: usize = 0;
-    while k < counts.len() {
+    for k in 0..counts.len() {
         at = put_edge(area, at, ends, counts, k);
-        k += 1;
     }
     at
-}
-
-// 1 for a count that a byte does not hold.
-fn more(count: u16) -> usize
-    ensures { result ≡ one (is_wide count) }
-{
-    if BYTE_VALUES <= count {
-        return 1;
-    }
-    0
 }
 
 // How many of the counts a byte does not hold.
@@ -149,11 +131,10 @@ fn wides_in(counts: &[u16]) -> usize
     ensures { result ≡ wides counts.now }
 {
     let mut n: usize = 0;
-    let mut k: usize = 0;
-    while k < counts.len() {
-        let count = counts[k];
-        n += more(count);
-        k += 1;
+    for count in counts {
+        if BYTE_VALUES <= *count {
+            n += 1;
+        }
     }
     n
 }
@@ -196,27 +177,23 @@ fn needed(cells: usize, edges: usize, wide: usize) -> usize
 }
 
 // Writes the bundle of the lists and answers its number of bytes; a refusal leaves the area as it is.
-pub fn write(nodes: &[u16], ends: &[u16], counts: &[u16], area: &mut [u8]) -> Written
+pub fn write(nodes: &[u16], ends: &[u16], counts: &[u16], area: &mut [u8]) -> Result<usize, Refusal>
     ensures answer { written_numbers result ≡ write_answer nodes.now ends.now counts.now (length area.old) }
     ensures area { area.new ≡ area_left nodes.now ends.now counts.now area.old }
 {
     let cells = nodes.len() / CELL_NODES;
     let edges = counts.len();
-    if nodes.len() % CELL_NODES != 0 {
-        return Written::Unformed;
-    }
-    if ends.len() % EDGE_ENDS != 0 {
-        return Written::Unformed;
-    }
-    if ends.len() / EDGE_ENDS != edges {
-        return Written::Unformed;
+    if nodes.len() % CELL_NODES != 0
+        || ends.len() % EDGE_ENDS != 0
+        || ends.len() / EDGE_ENDS != edges
+    {
+        return Err(Row::Records.at(0));
     }
     let wide = wides_in(counts);
     if !fits(cells, edges, wide, area.len()) {
-        return Written::Short(needed(cells, edges, wide));
+        return Err(Row::BundleArea.at(needed(cells, edges, wide)));
     }
     let from = put_cells(nodes, area);
     let stop = put_edges(ends, counts, from, area);
-    let size = put_head(area, stop, END);
-    Written::Bytes(size)
+    Ok(put_head(area, stop, Kind::End))
 }

@@ -290,6 +290,10 @@ module _ (t u : ℕ → Bool) where
   unfolding first
   first_ext n h = seek_ext n 0 (λ i l m. h i (omega arith))
 
+  pub found_ext : (n : ℕ) → ((i : ℕ) → i < n → t i ≡ u i) → found t n ≡ found u n
+  unfolding found
+  found_ext n h = rw (first_ext n h)
+
 -- a test together with one that does not depend on the number
 pub some_and : (t : ℕ → Bool) (b : Bool) (n : ℕ) → some (λ i. t i && b) n ≡ (some t n && b)
 unfolding some

@@ -1,20 +1,20 @@
 -- What is claimed of the definitions that the contracts cite.
-use Rattle.std.specs.Prelude.{ℕ, ◌+◌, ◌*◌, ◌/◌, ◌≤◌, ◌<◌, ◌≡◌, List, [], ◌∷◌, length, take}
+use Rattle.std.specs.Prelude.{ℕ, ◌+◌, ◌*◌, ◌/◌, ◌≤◌, ◌<◌, ◌≡◌, List, [], ◌∷◌, Result, length, take}
 use Rattle.answer.specs.Answer.{result_of, refusal}
+use Rattle.answer.specs.declared.Refusal.{Refusal}
 use Rattle.counting.specs.claims.Lists.{All}
 use Rattle.bundle.specs.Record.{byte_values, head_bytes, broken_row, record_answer, body_start, body_size, record_numbers}
 use Rattle.bundle.specs.Bundle.{cell_nodes, edge_ends, looks, stray_row, bundle_answer, read_answer, nodes_of, ends_of, counts_of, written_over, nodes_left, ends_left, counts_left, contents_numbers}
 use Rattle.bundle.specs.Written.{bundle_bytes, write_answer, area_left, written_numbers}
-use Rattle.bundle.specs.declared.Record.{Record}
-use Rattle.bundle.specs.declared.Contents.{Contents}
-use Rattle.bundle.specs.declared.Written.{Written}
+use Rattle.bundle.specs.declared.records.Record.{Record}
+use Rattle.bundle.specs.declared.reader.Lists.{Lists}
 use Rattle.bundle.specs.claims.Fault.{Fault, Stray}
 
--- the readings of the enums into numbers are one to one
+-- the readings of the answers into numbers are one to one
 pub record OneToOne : Type 0 where
-  pub records : (x y : Record) → record_numbers x ≡ record_numbers y → x ≡ y
-  pub contents : (x y : Contents) → contents_numbers x ≡ contents_numbers y → x ≡ y
-  pub written : (x y : Written) → written_numbers x ≡ written_numbers y → x ≡ y
+  pub records : (x y : Result Record Refusal) → record_numbers x ≡ record_numbers y → x ≡ y
+  pub contents : (x y : Result Lists Refusal) → contents_numbers x ≡ contents_numbers y → x ≡ y
+  pub written : (x y : Result ℕ Refusal) → written_numbers x ≡ written_numbers y → x ≡ y
 
 -- a record and its body lie within the bytes
 abbrev pub RecordWithin : Type 0

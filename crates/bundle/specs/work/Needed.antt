@@ -1,10 +1,11 @@
 -- What private functions of the reader and the writer ask of their callers, and sizes that they work out.
-use Rattle.std.specs.Prelude.{ℕ, ◌+◌, ◌*◌, ◌/◌, ◌≤◌, ◌<◌, ◌≡◌, List, length, get_or}
+use Rattle.std.specs.Prelude.{ℕ, ◌+◌, ◌*◌, ◌/◌, ◌≤◌, ◌<◌, ◌≡◌, List, Option, Some, None, length, get_or}
 use Rattle.counting.specs.Lists.{over}
+use Rattle.counting.specs.Pick.{pick}
 use Rattle.counting.specs.Search.{count}
-use Rattle.bundle.specs.Record.{word_size, head_bytes, wide_kind, is_wide, count_place}
+use Rattle.bundle.specs.Record.{word_size, head_bytes, wide_kind, is_wide, count_place, next_record}
 use Rattle.bundle.specs.work.Record.{cell_size, edge_size, end_size}
-use Rattle.bundle.specs.Bundle.{cells, edges_from, edges, looks_from, looks, stop, cell_nodes, edge_ends}
+use Rattle.bundle.specs.Bundle.{is_of, cells, edges_from, edges, looks_from, looks, stop, cell_nodes, edge_ends}
 use Rattle.bundle.specs.Written.{cell_bytes, edge_bytes}
 
 -- how many of the counts a byte does not hold
@@ -14,6 +15,10 @@ wides counts = count (λ k. is_wide (get_or counts k 0)) (length counts)
 -- the bytes of a bundle of so many cells and edges, of which so many are of kind 4, which has a byte more
 abbrev pub bundle_size : ℕ → ℕ → ℕ → ℕ
 bundle_size cells edges wide = cell_size * cells + edge_size * edges + wide + end_size
+
+-- where the record after the one at a place starts, if one of the section stands there
+unfoldable pub next_in : List ℕ → ℕ → ℕ → Option ℕ
+next_in s section at = pick (is_of s section at) (Some (next_record s at)) None
 
 -- n numbers of 16 bits in a body, and room for them in a list
 pub record WordsLent (body : List ℕ) (n : ℕ) (list : List ℕ) (at : ℕ) : Type 0 where

@@ -1,14 +1,18 @@
-use mathlib.Core.Path.{◌≡◌}
-use Rattle.bundle.specs.declared.Contents.TheVariants.{Lists, Refused}
-use Rattle.host.proofs.Told.{whole, broken}
+use Prim.Native.Nat.{ℕ}
+use mathlib.Core.Path.{ap, ◌∙◌}
+use mathlib.Core.List.{List}
+use lib.ListN.{get_or}
+use Rattle.bundle.proofs.Answers.{accepted, accepted_cells, accepted_edges, rejected}
 use Rattle.host.proofs.numbers_of.Goals as goal
 
-pub returns-in-Lists : goal.returns-in-Lists
-returns-in-Lists c = let r = c.scan in
-    let e : Lists c.in-Lists.cells c.in-Lists.edges ≡ r.result = cc in
-    whole c.args.bytes.now r.result r.ensures _ _ e
+pub returns-in-Ok : goal.returns-in-Ok
+returns-in-Ok c =
+    let t = c.in-Ok.ensures in
+    let b = accepted _ _ _ t in
+    (ap (λ (x : List ℕ). get_or x 0 0) t, (accepted_cells _ _ _ t ∙ simp b, accepted_edges _ _ _ t ∙ simp b))
 
-pub returns-in-Refused : goal.returns-in-Refused
-returns-in-Refused c = let r = c.scan in
-    let e : Refused c.in-Refused.number c.in-Refused.place ≡ r.result = cc in
-    broken c.args.bytes.now r.result r.ensures _ _ e
+pub returns-in-Err : goal.returns-in-Err
+returns-in-Err c =
+    let t = c.in-Err.ensures in
+    let b = rejected _ _ _ t in
+    (c.number.ensures ∙ ap (λ (x : List ℕ). get_or x 0 0) t, (simp b, simp b))

@@ -47,14 +47,14 @@ overflow_mul-m c = omega (arith, there (goal.at.overflow_mul-m c).Else-p-eq0)
 pub overflow_add-base : goal.overflow_add-base
 overflow_add-base c = omega (arith, there (goal.at.overflow_add-base c).Else-p-eq0)
 
-pub overflow_add-base-2 : goal.overflow_add-base-2
-overflow_add-base-2 c = omega (arith, there (goal.at.overflow_add-base-2 c).Else-p-eq0)
+pub overflow_add-base-else-p-eq0 : goal.overflow_add-base-else-p-eq0
+overflow_add-base-else-p-eq0 c = omega (arith, there (goal.at.overflow_add-base-else-p-eq0 c).Else-p-eq0)
 
-pub overflow_add-base-3 : goal.overflow_add-base-3
-overflow_add-base-3 c = omega (arith, there (goal.at.overflow_add-base-3 c).Else-p-eq0)
+pub overflow_add-base-else-p-eq0-2 : goal.overflow_add-base-else-p-eq0-2
+overflow_add-base-else-p-eq0-2 c = omega (arith, there (goal.at.overflow_add-base-else-p-eq0-2 c).Else-p-eq0)
 
 pub word_at-requires : goal.word_at-requires
 word_at-requires c = omega (arith, there (goal.at.word_at-requires c).Else-p-eq0)
 
-pub returns : goal.returns
-returns c = c.word_at.ensures ∙ by_look _ _ _ _ _ c.requires c.if-p-eq0.false
+pub returns-else-p-eq0 : goal.returns-else-p-eq0
+returns-else-p-eq0 c = c.word_at.ensures ∙ by_look _ _ _ _ _ c.requires c.if-p-eq0.false

@@ -1,4 +1,3 @@
-use mathlib.Core.Path.{◌∙◌}
 use Rattle.trees.proofs.Trees.{sought_all}
 use Rattle.bundle.specs.work.Looked.{look_branches}
 use Rattle.bundle.proofs.looks.latest.Goals as goal
@@ -7,4 +6,4 @@ pub bounds-links-at : goal.bounds-links-at
 bounds-links-at c = c.seek-at.ensures.within
 
 pub returns : goal.returns
-returns c = c.wide.ensures ∙ sought_all _ _ look_branches _ _ _ c.seek-at.ensures
+returns c = sought_all _ _ look_branches _ _ _ c.seek-at.ensures

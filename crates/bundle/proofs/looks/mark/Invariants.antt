@@ -1,4 +1,3 @@
-use Prim.Native.Nat.{◌-◌}
 use Rattle.bundle.specs.Bundle.{edge_section}
 use Rattle.bundle.proofs.Runs.{Walked}
 use Rattle.bundle.proofs.Looked.{Marking}
@@ -6,6 +5,3 @@ use Rattle.bundle.proofs.looks.mark.Given as goal
 
 abbrev pub invariant-loop-k : goal.invariant-loop-k
 invariant-loop-k l = Walked l.bytes l.from edge_section l.at l.k × Marking l.bytes l.m l.n l.initial.met l.met l.k
-
-abbrev pub decreases-loop-k : goal.decreases-loop-k
-decreases-loop-k l = l.count - l.k

@@ -11,8 +11,8 @@ word_at-requires c = omega (arith, (stands _ _ c.requires).inside)
 
 pub overflow_add-result-2 : goal.overflow_add-result-2
 unfolding next_record
-overflow_add-result-2 c = omega (arith, (stands _ _ c.requires).fits, c.wide.ensures, c.word_at.ensures)
+overflow_add-result-2 c = omega (arith, (stands _ _ c.requires).fits, c.word_at.ensures)
 
 pub returns : goal.returns
 unfolding next_record
-returns c = omega (arith, c.wide.ensures, c.word_at.ensures)
+returns c = omega (arith, c.word_at.ensures)

@@ -1,5 +1,5 @@
 use Prim.Native.Nat.{◌+◌, ◌<◌}
-use mathlib.Core.Path.{◌≡◌, ◌∙◌}
+use mathlib.Core.Path.{◌≡◌}
 use native.Mathlib.Omega.{arith}
 use lib.ListN.{get_or}
 use Rattle.bundle.proofs.Looked.{look_few}
@@ -21,8 +21,8 @@ bounds-links-at c = c.seek-at.ensures.within
 pub returns-then-p-gt0 : goal.returns-then-p-gt0
 returns-then-p-gt0 c = let p = c.requires in
     let f = rw c.look_key-key.ensures at c.seek-at.ensures in
-    let h : 0 < get_or c.args.links.now c.seek-at.result 0 = omega (arith, c.wide-p.ensures, c.if-p-gt0.true) in
-    record { value = c.wide-p.ensures ∙ plant_top _ _ _ _ _ p.one p.tree _ f h; tree = plant_hit _ _ _ _ _ p.one p.tree _ f h }
+    let h : 0 < get_or c.args.links.now c.seek-at.result 0 = omega (arith, c.if-p-gt0.true) in
+    record { value = plant_top _ _ _ _ _ p.one p.tree _ f h; tree = plant_hit _ _ _ _ _ p.one p.tree _ f h }
 
 pub overflow_cast-links : goal.overflow_cast-links
 overflow_cast-links c = omega (arith, c.requires.one, c.requires.few)
@@ -33,5 +33,5 @@ bounds-links-at-2 c = c.seek-at.ensures.within
 pub returns : goal.returns
 returns c = let p = c.requires in
     let f = rw c.look_key-key.ensures at c.seek-at.ensures in
-    let z : get_or c.args.links.now c.seek-at.result 0 ≡ 0 = omega (arith, c.wide-p.ensures, c.if-p-gt0.false) in
+    let z : get_or c.args.links.now c.seek-at.result 0 ≡ 0 = omega (arith, c.if-p-gt0.false) in
     record { value = plant_own _ _ _ _ _ p.one p.tree _ f z; tree = plant_new _ _ _ _ _ p.one p.tree _ f z }

@@ -1,4 +1,4 @@
-use Prim.Native.Nat.{◌+◌, ◌-◌}
+use Prim.Native.Nat.{◌+◌}
 use mathlib.Core.Path.{◌≡◌}
 use Rattle.counting.specs.Stored.{filled}
 use Rattle.bundle.specs.Bundle.{edge_section, count_after}
@@ -7,6 +7,3 @@ use Rattle.bundle.proofs.looks.put_counts.Given as goal
 
 abbrev pub invariant-loop-k : goal.invariant-loop-k
 invariant-loop-k l = Walked l.bytes l.from edge_section l.at l.k × (l.counts ≡ filled (count_after l.bytes (l.m + l.n)) l.k l.initial.counts)
-
-abbrev pub decreases-loop-k : goal.decreases-loop-k
-decreases-loop-k l = l.count - l.k

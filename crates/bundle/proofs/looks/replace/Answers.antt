@@ -13,19 +13,18 @@ loop-m-init c = (omega arith, table_filled _ _ _ c.requires.counted)
 
 pub replace_in-requires : goal.replace_in-requires
 replace_in-requires c = let p = c.requires.looks_lent in
-    let e = c.block_of-size.ensures in
-    record { block_lent = record { listed = p.listed; part = record { begin = p.begin; within = omega (arith, p.all, e) }; few = omega (arith, e) }; counted = filled_table _ _ _ _ c.loop-m.invariant.1 c.requires.counted.room }
+    record { block_lent = record { listed = p.listed; part = record { begin = p.begin; within = omega (arith, p.all) }; few = omega (arith) }; counted = filled_table _ _ _ _ c.loop-m.invariant.1 c.requires.counted.room }
 
 pub overflow_add-m : goal.overflow_add-m
-overflow_add-m c = omega (arith, c.block_of-size.ensures)
+overflow_add-m c = omega arith
 
 pub loop-m-smaller : goal.loop-m-smaller
-loop-m-smaller c = omega (arith, c.block_of-size.ensures)
+loop-m-smaller c = omega arith
 
 pub loop-m-preserved : goal.loop-m-preserved
-loop-m-preserved c = let f = count_after c.args.bytes.now (c.loop-m.m + c.block_of-size.result) in
+loop-m-preserved c = let f = count_after c.args.bytes.now (c.loop-m.m + c.min-size.result) in
     let n = edges c.args.bytes.now in (
-      omega (arith, c.block_of-size.ensures),
+      omega arith,
       c.replace_in.ensures ∙ ap (filled f n) c.loop-m.invariant.1 ∙ filled_again f _ n _ c.requires.counted.room,
     )
 

@@ -1,5 +1,5 @@
 use Prim.Native.Nat.{◌+◌, ◌-◌, ◌*◌, ◌%◌, ◌<◌}
-use mathlib.Core.Path.{sym, ◌∙◌}
+use mathlib.Core.Path.{refl, sym, ◌∙◌}
 use native.Mathlib.Nat.{mod-lt}
 use native.Mathlib.Omega.{arith}
 use lib.ListN.{length}
@@ -18,7 +18,7 @@ pub bounds-links-at : goal.bounds-links-at
 bounds-links-at c = omega (arith, c.requires.tree.room, mod-lt c.args.key {m = trees} (omega arith))
 
 pub loop-j-init : goal.loop-j-init
-loop-j-init c = descending_start _ (omega arith) _ _ _ _ c.requires.tree _ _ c.wide-j.ensures
+loop-j-init c = descending_start _ (omega arith) _ _ _ _ c.requires.tree _ _ refl
 
 pub overflow_add-m : goal.overflow_add-m
 overflow_add-m c = let p = c.requires in
@@ -49,10 +49,10 @@ pub bounds-links-at-in-loop-j : goal.bounds-links-at-in-loop-j
 bounds-links-at-in-loop-j c = room (goal.at.bounds-links-at-in-loop-j c).Else-look_key-key
 
 pub loop-j-smaller : goal.loop-j-smaller
-loop-j-smaller c = omega (arith, c.wide-j-in-loop-j.ensures, descending_less _ (omega arith) _ _ _ _ c.requires.tree _ _ _ _ c.loop-j.invariant c.loop-j-test.true)
+loop-j-smaller c = omega (arith, descending_less _ (omega arith) _ _ _ _ c.requires.tree _ _ _ _ c.loop-j.invariant c.loop-j-test.true)
 
 pub loop-j-preserved : goal.loop-j-preserved
-loop-j-preserved c = descending_more _ (omega arith) _ _ _ _ c.requires.tree _ _ _ _ c.loop-j.invariant c.loop-j-test.true (λ q. c.if-look_key-key.false (c.look_key.ensures ∙ q)) _ c.wide-j-in-loop-j.ensures
+loop-j-preserved c = descending_more _ (omega arith) _ _ _ _ c.requires.tree _ _ _ _ c.loop-j.invariant c.loop-j-test.true (λ q. c.if-look_key-key.false (c.look_key.ensures ∙ q)) _ refl
 
 pub returns : goal.returns
 returns c = descending_end _ (omega arith) _ _ _ _ c.requires.tree _ _ _ _ c.loop-j.invariant (omega arith)

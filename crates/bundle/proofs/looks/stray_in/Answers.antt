@@ -2,7 +2,7 @@ use Prim.Native.Nat.{ℕ, ◌+◌, ◌*◌, ◌<◌}
 use mathlib.Core.Path.{◌∙◌}
 use native.Mathlib.Omega.{arith}
 use lib.ListN.{get_or}
-use Rattle.counting.proofs.Search.{first_ext}
+use Rattle.counting.proofs.Search.{found_ext}
 use Rattle.counting.proofs.Tables.{zeros}
 use Rattle.trees.specs.work.Trees.{trees}
 use Rattle.bundle.specs.work.Looked.{block_looks, look_branches, look_key, block_key}
@@ -26,4 +26,4 @@ unmet-requires c = let t = c.grow.ensures.tops in
 pub returns : goal.returns
 returns c = let p = c.requires in
     let small : (i : ℕ) → get_or c.args.bytes.now i 0 < 256 = λ i. omega (arith, c.type_inv.bytes i) in
-    c.unmet.ensures ∙ first_ext _ _ _ (λ j h. unmarked_stray _ small _ _ p.part.within _ _ c.grow.ensures.tops c.mark.ensures j h)
+    c.unmet.ensures ∙ found_ext _ _ _ (λ j h. unmarked_stray _ small _ _ p.part.within _ _ c.grow.ensures.tops c.mark.ensures j h)

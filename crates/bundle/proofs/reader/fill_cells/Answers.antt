@@ -49,9 +49,6 @@ overflow_add-at c = omega (arith, fits (goal.at.overflow_add-at c).In-loop-k, ap
 pub overflow_add-at-in-loop-k : goal.overflow_add-at-in-loop-k
 overflow_add-at-in-loop-k c = omega (arith, fits (goal.at.overflow_add-at-in-loop-k c).In-loop-k, ap length c.body_at-body.ensures.contents)
 
-pub overflow_add-k : goal.overflow_add-k
-overflow_add-k c = omega (arith, space (goal.at.overflow_add-k c).In-loop-k)
-
 pub loop-k-preserved : goal.loop-k-preserved
 loop-k-preserved c = let t = (goal.at.loop-k-preserved c).In-loop-k in
     let l = c.loop-k in

@@ -1,4 +1,4 @@
-use Prim.Native.Nat.{◌-◌, ◌*◌}
+use Prim.Native.Nat.{◌*◌}
 use Rattle.counting.specs.Lists.{over}
 use Rattle.counting.specs.work.Stored.{Stored}
 use Rattle.bundle.specs.Record.{cell_kind}
@@ -9,6 +9,3 @@ use Rattle.bundle.proofs.reader.fill_cells.Given as goal
 
 abbrev pub invariant-loop-k : goal.invariant-loop-k
 invariant-loop-k l = Walked l.bytes 0 cell_kind l.at l.k × Stored l.initial.nodes 0 (over (nodes_by l.bytes 0) l.k 0) l.nodes (cell_nodes * l.k)
-
-abbrev pub decreases-loop-k : goal.decreases-loop-k
-decreases-loop-k l = l.count - l.k

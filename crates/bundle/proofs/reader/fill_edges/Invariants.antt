@@ -1,4 +1,4 @@
-use Prim.Native.Nat.{◌-◌, ◌*◌}
+use Prim.Native.Nat.{◌*◌}
 use Rattle.counting.specs.Lists.{over}
 use Rattle.counting.specs.work.Stored.{Stored}
 use Rattle.bundle.specs.Bundle.{edge_ends, edge_section}
@@ -8,6 +8,3 @@ use Rattle.bundle.proofs.reader.fill_edges.Given as goal
 
 abbrev pub invariant-loop-k : goal.invariant-loop-k
 invariant-loop-k l = Walked l.bytes l.from edge_section l.at l.k × Stored l.initial.ends 0 (over (ends_by l.bytes l.from) l.k 0) l.ends (edge_ends * l.k) × Stored l.initial.counts 0 (over (count_by l.bytes l.from) l.k 0) l.counts l.k
-
-abbrev pub decreases-loop-k : goal.decreases-loop-k
-decreases-loop-k l = l.count - l.k

@@ -1,41 +1,29 @@
 use Prim.Native.Nat.{◌+◌}
-use mathlib.Core.Path.{sym, ap, ◌∙◌}
-use native.Mathlib.Omega.{arith}
-use Rattle.bundle.specs.Bundle.{section_of}
-use Rattle.bundle.proofs.OneRecord.{Found, found, not_found, stands, next_ge}
-use Rattle.bundle.proofs.Runs.{Going, going, on, arrived, is-of, none_of, other_of}
+use Rattle.std.proofs.Common.{arith}
+use Rattle.bundle.specs.Bundle.{section_number}
+use Rattle.bundle.proofs.OneRecord.{stands, next_ge}
+use Rattle.bundle.proofs.Runs.{Going, going, on, arrived, of_record, some_next, none_next}
 use Rattle.bundle.proofs.reader.run_from.Goals as goal
-use Rattle.bundle.proofs.reader.run_from.Goals.{Else-section_of-section}
+use Rattle.bundle.proofs.reader.run_from.Goals.{In-Some}
 
-pub loop-number-init : goal.loop-number-init
-loop-number-init c = going c.args.bytes.now c.args.from c.args.section
+pub loop-next-init : goal.loop-next-init
+loop-next-init c = going _ _ _
 
-pub returns-in-Refused : goal.returns-in-Refused
-returns-in-Refused c = let l = c.loop-number in
-    let n = not_found c.args.bytes.now l.at _ _ c.in-Refused.ensures in
-    (arrived _ _ _ _ _ l.invariant (none_of _ _ _ n), l.invariant.reached)
-
-pub returns-then-section_of-section : goal.returns-then-section_of-section
-returns-then-section_of-section c = let l = c.loop-number in
-    let t = found c.args.bytes.now l.at _ _ c.in-Whole.ensures in
-    (arrived _ _ _ _ _ l.invariant (other_of _ _ _ (λ h. c.if-section_of-section.true (c.section_of.ensures ∙ ap section_of t.kind_is ∙ h))), l.invariant.reached)
-
--- a whole record of the section was read
-told : (c : Else-section_of-section) → Found c.args.bytes.now c.loop-number.at c.in-Whole.kind c.in-Whole.next
-told c = found c.args.bytes.now c.loop-number.at _ _ c.in-Whole.ensures
-
-more : (c : Else-section_of-section) → Going c.args.bytes.now c.args.from c.args.section c.in-Whole.next (c.loop-number.count + 1)
-more c =
-    let t = told c in
-    rw t.next_is (on _ _ _ _ _ c.loop-number.invariant (is-of _ _ _ t.whole (sym (c.section_of.ensures ∙ ap section_of t.kind_is) ∙ c.if-section_of-section.false)))
+more : (c : In-Some) → Going c.args.bytes.now c.args.from (section_number c.args.section) c.in-Some.next (c.loop-next.count + 1)
+more c = let t = some_next _ _ _ _ c.in-Some.ensures in rw t.1 (on _ _ _ _ _ c.loop-next.invariant t.0)
 
 pub overflow_add-count : goal.overflow_add-count
 overflow_add-count c = let m = more c in omega (arith, m.inside)
 
-pub loop-number-smaller : goal.loop-number-smaller
-loop-number-smaller c = let s = c.args.bytes.now in
-    let t = told c in
-    omega (arith, t.next_is, next_ge s c.loop-number.at t.whole, (stands s c.loop-number.at t.whole).fits)
+pub loop-next-smaller : goal.loop-next-smaller
+loop-next-smaller c =
+    let t = some_next _ _ _ _ c.in-Some.ensures in
+    let s = c.args.bytes.now in
+    let r = of_record _ _ _ t.0 in
+    omega (arith, t.1, next_ge s c.loop-next.at r, (stands s c.loop-next.at r).fits)
 
-pub loop-number-preserved : goal.loop-number-preserved
-loop-number-preserved c = more c
+pub loop-next-preserved : goal.loop-next-preserved
+loop-next-preserved c = more c
+
+pub returns : goal.returns
+returns c = let l = c.loop-next.invariant in (arrived _ _ _ _ _ l (none_next _ _ _ c.in_default.ensures), l.reached)

@@ -6,6 +6,6 @@ pub returns-then-count-ge-BYTE_VALUES : goal.returns-then-count-ge-BYTE_VALUES
 unfolding kind_for
 returns-then-count-ge-BYTE_VALUES c = simp (le-leb _ _ c.if-count-ge-BYTE_VALUES.true)
 
-pub returns : goal.returns
+pub returns-else-count-ge-BYTE_VALUES : goal.returns-else-count-ge-BYTE_VALUES
 unfolding kind_for
-returns c = simp (lt-leb _ _ c.if-count-ge-BYTE_VALUES.false)
+returns-else-count-ge-BYTE_VALUES c = simp (lt-leb _ _ c.if-count-ge-BYTE_VALUES.false)

@@ -1,4 +1,4 @@
-use mathlib.Core.Path.{◌≡◌, ap}
+use mathlib.Core.Path.{ap}
 use native.Mathlib.Omega.{arith}
 use lib.ListN.{length}
 use Rattle.counting.proofs.Stored.{stored_one}
@@ -14,6 +14,8 @@ returns-then-count-ge-BYTE_VALUES c = rw (bytes_wide _ c.if-count-ge-BYTE_VALUES
 pub bounds-area-at : goal.bounds-area-at
 bounds-area-at c = omega (arith, c.requires, ap length (bytes_narrow _ c.if-count-ge-BYTE_VALUES.false))
 
+pub overflow_cast-area : goal.overflow_cast-area
+overflow_cast-area c = omega (arith, c.if-count-ge-BYTE_VALUES.false)
+
 pub returns : goal.returns
-returns c = let e : c.low.result ≡ c.args.count = omega (arith, c.low.ensures, c.if-count-ge-BYTE_VALUES.false) in
-    rw (bytes_narrow _ c.if-count-ge-BYTE_VALUES.false, e) (stored_one _ _ _)
+returns c = rw (bytes_narrow _ c.if-count-ge-BYTE_VALUES.false) (stored_one _ _ _)

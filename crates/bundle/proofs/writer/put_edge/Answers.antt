@@ -20,5 +20,5 @@ put_count-requires c = let h = c.put_head-body.ensures in
 
 pub returns : goal.returns
 unfolding edge_bytes
-returns c = let h = rw c.kind_for-kind.ensures at c.put_head-body.ensures in
+returns c = let h = rw c.kind_for.ensures at c.put_head-body.ensures in
     stored_then h (stored_then c.put_words-next.ensures c.put_count.ensures)

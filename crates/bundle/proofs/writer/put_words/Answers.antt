@@ -12,8 +12,8 @@ pub loop-i-init : goal.loop-i-init
 unfolding over
 loop-i-init c = (omega arith, stored_none _ _)
 
-pub overflow_add-x : goal.overflow_add-x
-overflow_add-x c = omega (arith, c.requires.all)
+pub overflow_add-from : goal.overflow_add-from
+overflow_add-from c = omega (arith, c.requires.all)
 
 pub offset_bounds-list-from : goal.offset_bounds-list-from
 offset_bounds-list-from c = omega (arith, c.requires.all)

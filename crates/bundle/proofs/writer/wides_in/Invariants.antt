@@ -1,7 +1,7 @@
-use Prim.Native.Nat.{ℕ, ◌-◌, ◌≤◌}
+use Prim.Native.Nat.{ℕ}
 use mathlib.Core.Path.{◌≡◌}
 use mathlib.Core.List.{List}
-use lib.ListN.{length, get_or}
+use lib.ListN.{get_or}
 use Rattle.counting.specs.Search.{count}
 use Rattle.bundle.specs.Record.{is_wide}
 use Rattle.bundle.proofs.writer.wides_in.Given as goal
@@ -10,8 +10,5 @@ use Rattle.bundle.proofs.writer.wides_in.Given as goal
 abbrev pub among : List ℕ → ℕ → ℕ
 among counts k = count (λ i. is_wide (get_or counts i 0)) k
 
-abbrev pub invariant-loop-k : goal.invariant-loop-k
-invariant-loop-k l = (l.k ≤ length l.counts) × (l.n ≡ among l.counts l.k)
-
-abbrev pub decreases-loop-k : goal.decreases-loop-k
-decreases-loop-k l = length l.counts - l.k
+abbrev pub invariant-loop-count : goal.invariant-loop-count
+invariant-loop-count l = l.n ≡ among l.counts l.count-index
