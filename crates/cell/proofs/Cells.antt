@@ -21,7 +21,7 @@ use Rattle.cell.specs.Loop.{loop_size, leasts, loop_told, loop_answer}
 use Rattle.cell.specs.work.Limits.{most_in_cell}
 use Rattle.cell.specs.work.Round.{round_answer}
 use Rattle.cell.specs.declared.Triangle.{Triangle}
-use Rattle.cell.specs.declared.Nth.TheVariants.{Found, Nothing}
+use Rattle.std.proofs.Common.{Some, None}
 use Rattle.cell.specs.Of.{edges_of}
 use Rattle.cell.specs.Triangles.{loop_triangles, cell_triangles, asked_triangles, triangles_with}
 use Rattle.cell.specs.work.Nth.{nth_of, nth_numbers, nth_answer}
@@ -76,12 +76,12 @@ module _ {A : Type 0} (f : ℕ → List A) where
 
 -- triangle t of the cell
 module _ (c : Cell) {t p left : ℕ} (S : Seeking (loop_triangles c) t p left) where
-  pub triangle_off : p ≡ crossings (edges_of c) → (Nothing ≡ nth_of (cell_triangles c) t) × (nth_numbers Nothing ≡ nth_answer (cell_triangles c) t)
+  pub triangle_off : p ≡ crossings (edges_of c) → (None ≡ nth_of (cell_triangles c) t) × (nth_numbers None ≡ nth_answer (cell_triangles c) t)
   unfolding cell_triangles nth_of nth_answer
   triangle_off l = let e = rw l at (seeking_off (loop_triangles c) S) in (rw e, rw e)
 
   pub triangle_here : p < crossings (edges_of c) → (r : Triangle) {w : List Triangle} → w ≡ loop_triangles c p → left < length (loop_triangles c p) → Entry w left r
-      → (Found r ≡ nth_of (cell_triangles c) t) × (nth_numbers (Found r) ≡ nth_answer (cell_triangles c) t)
+      → (Some r ≡ nth_of (cell_triangles c) t) × (nth_numbers (Some r) ≡ nth_answer (cell_triangles c) t)
   unfolding cell_triangles nth_of nth_answer
   triangle_here l r {w} e h q =
       let f = rw (← e, q) at (seeking_here (loop_triangles c) S (crossings (edges_of c)) l (omega arith)) in

@@ -1,16 +1,17 @@
 -- What is kept of the arrays that the walks use.
-use Prim.Native.Nat.{ℕ, ◌+◌, ◌-◌, ◌%◌, ◌≤◌, ◌<◌, min}
+use Prim.Native.Nat.{ℕ, zero, suc, ◌-◌, ◌%◌, ◌≤◌, ◌<◌, min}
 use mathlib.Core.Path.{◌≡◌, refl, sym, ap, ◌∙◌}
-use mathlib.Core.List.{List, [], ◌++◌}
+use mathlib.Core.List.{List, [], ◌∷◌, ◌++◌}
 use native.Mathlib.Decide.{dec_lt}
 use native.Mathlib.Omega.{arith}
-use lib.ListN.{length, get_or, drop, set, length-set}
+use lib.ListN.{length, get_or, drop, set, replicate, length-set}
 use lib.Seq.{drop-set-lt, drop_at, ext_get_or}
-use Rattle.counting.specs.Lists.{values}
+use Rattle.counting.specs.Lists.{values, over}
 use Rattle.counting.specs.Stored.{filled}
 use Rattle.counting.proofs.Fronts.{sets_front}
 use Rattle.counting.proofs.Lists.{length_singles, values_at}
-use Rattle.counting.proofs.Stored.{filled_none, filled_more, length_filled}
+use Rattle.counting.proofs.Stored.{filled_front, length_filled}
+use borrow.Rule.Slice.PartMut.{post_of, Post-is}
 use Rattle.counting.proofs.Pack.{pre_most}
 use Rattle.slots.specs.Limits.{most_count, most_cells}
 use Rattle.cell.specs.declared.Cell.{Cell}
@@ -123,20 +124,11 @@ module _ (counts sides : List ℕ) (c : ℕ) where
         | no n ↦ omega (arith, past_end (table_counts counts sides (c % most_cells)) k (omega (arith, length_singles (λ k. get_or counts (side sides (c % most_cells) k) 0) 6 0)))
       ]
 
--- v in the first i places of a list, on the way to n
-pub record Filling (v n : ℕ) (l : List ℕ) (i : ℕ) (m : List ℕ) : Type 0 where
-  pub up : i ≤ n
-  pub is : m ≡ filled (λ i. v) i l
+-- a list whose first n places are filled
+same_values : (v n k : ℕ) → over (λ i. v ∷ []) n k ≡ replicate n v
+unfolding over
+same_values v zero k = refl
+same_values v (suc n) k = ap (λ l. v ∷ l) (same_values v n (suc k))
 
-pub filling_none : (v n : ℕ) (l : List ℕ) → Filling v n l 0 l
-filling_none v n l = record { up = omega arith; is = filled_none (λ i. v) l }
-
-module _ {v n : ℕ} {l : List ℕ} {i : ℕ} {m : List ℕ} (F : Filling v n l i m) where
-  pub filling_long : length m ≡ length l
-  filling_long = filled_same (λ i. v) i l F.is
-
-  pub filling_more : i < n → Filling v n l (i + 1) (set m i v)
-  filling_more h = record { up = omega arith; is = filled_more (λ i. v) i l m v F.is refl }
-
-  pub filling_all : n ≤ i → m ≡ filled (λ i. v) n l
-  filling_all h = let e : i ≡ n = omega (arith, F.up) in F.is ∙ ap (λ k. filled (λ i. v) k l) e
+pub cleared : (v n : ℕ) (l : List ℕ) {m : List ℕ} {k : ℕ} → n ≤ length l → k ≡ n → m ≡ replicate k v → m ++ post_of 0 (n - 0) l ≡ filled (λ i. v) n l
+cleared v n l {m} h e f = ap (λ p. m ++ p) (Post-is 0 n l (omega arith)) ∙ ap (λ p. p ++ drop n l) (f ∙ ap (λ k. replicate k v) e ∙ sym (same_values v n 0)) ∙ sym (filled_front (λ i. v) n l h)

@@ -8,7 +8,6 @@ ghost use Rattle.cell.specs.work.Round.{crosses_in, round_answer};
 ghost use Rattle.cell.specs.Answer.{type_numbers, loop_numbers};
 
 use super::{Cell, Loop, LoopType, half_edges};
-use counting::wide8;
 
 fn same(a: usize, b: usize) -> usize
     ensures { (result ≡ one (eqb a b)) × (result ≤ 1) }
@@ -21,7 +20,7 @@ pub(crate) fn edge_at(halves: &[u8], k: usize) -> usize
     requires { k < length halves.now }
     ensures { result ≡ edge_of (get_or halves.now k 0) }
 {
-    let h = wide8(halves[k]);
+    let h = halves[k] as usize;
     if h < 12 {
         return half_edges::edge_of(h);
     }
@@ -33,10 +32,8 @@ fn crosses_of(halves: &[u8], e: usize) -> usize
     ensures { result ≡ crosses_in halves.now e }
 {
     let mut x: usize = 0;
-    let mut k: usize = 0;
-    while k < halves.len() {
+    for k in 0..halves.len() {
         x += same(edge_at(halves, k), e);
-        k += 1;
     }
     x
 }

@@ -17,11 +17,7 @@ use slots::MOST_CELLS;
 pub fn drawn(cells: &[u16]) -> usize
     ensures { result ≡ drawn_cells cells.now }
 {
-    let n = cells.len() / 4;
-    if n < MOST_CELLS {
-        return n;
-    }
-    MOST_CELLS
+    (cells.len() / 4).min(MOST_CELLS)
 }
 
 // How many triangles those cells have that are walked to be counted: some count is above 2, and some face has an odd sum or a count above the other two.
@@ -33,15 +29,12 @@ fn walked_in_all(tables: Tables, marks: &mut [u16], halves: &mut [u8], points: &
 {
     let n = drawn(tables.cells);
     let mut t: usize = 0;
-    let mut c: usize = 0;
-    while c < n {
+    for c in 0..n {
         if is_known(counts_at(tables.counts, tables.sides, c)) {
-            c += 1;
             continue;
         }
         let x = counted_at(tables, c);
         t += count_in(x.cell, x.crossings, 0, marks, halves, points);
-        c += 1;
     }
     t
 }
@@ -80,11 +73,9 @@ fn put_in_all(
     ensures sized { Sized marks.old halves.old points.old marks.new halves.new points.new }
 {
     let mut i = at;
-    let mut k = c;
-    while k < end {
+    for k in c..end {
         let x = counted_at(tables, k);
         i = put_in(x.cell, x.crossings, marks, halves, points, area, i);
-        k += 1;
     }
     i
 }

@@ -9,26 +9,23 @@ ghost use Rattle.cell.specs.work.Tables.{cell_in};
 
 use super::routes::crossings_of;
 use super::{Cell, Counted, Tables};
-use counting::wide16;
 use slots::{MOST_CELLS, MOST_COUNT, MOST_EDGES};
 
 // Entry i of a list, 0 past its end.
 fn entry(list: &[u16], i: usize) -> u16
     ensures { result ≡ get_or list.now i 0 }
 {
-    if i < list.len() {
-        return list[i];
-    }
-    0
+    if i < list.len() { list[i] } else { 0 }
 }
 
 fn start_at(starts: &[u32], i: usize) -> u32
     ensures { result ≡ get_or starts.now i 0 % short_limit }
 {
     if i < starts.len() {
-        return starts[i] % 65536;
+        starts[i] % 65536
+    } else {
+        0
     }
-    0
 }
 
 fn counts_of(counts: &[u16], sides: &[u16], c: usize) -> [u16; 6]
@@ -36,11 +33,9 @@ fn counts_of(counts: &[u16], sides: &[u16], c: usize) -> [u16; 6]
     ensures { result ≡ table_counts counts.now sides.now c }
 {
     let mut six = [0u16; 6];
-    let mut k: usize = 0;
-    while k < 6 {
-        let e = wide16(entry(sides, 6 * c + k));
+    for k in 0..6 {
+        let e = entry(sides, 6 * c + k) as usize;
         six[k] = entry(counts, e);
-        k += 1;
     }
     six
 }
@@ -50,11 +45,9 @@ fn starts_of(starts: &[u32], sides: &[u16], c: usize) -> [u32; 6]
     ensures { result ≡ table_starts starts.now sides.now c }
 {
     let mut six = [0u32; 6];
-    let mut k: usize = 0;
-    while k < 6 {
-        let e = wide16(entry(sides, 6 * c + k));
+    for k in 0..6 {
+        let e = entry(sides, 6 * c + k) as usize;
         six[k] = start_at(starts, e);
-        k += 1;
     }
     six
 }
@@ -64,19 +57,10 @@ fn four_of(list: &[u16], c: usize) -> [u16; 4]
     ensures { result ≡ of_four list.now c }
 {
     let mut four = [0u16; 4];
-    let mut i: usize = 0;
-    while i < 4 {
+    for i in 0..4 {
         four[i] = entry(list, 4 * c + i);
-        i += 1;
     }
     four
-}
-
-// A count, the limit where it is above.
-fn limited(n: u16) -> u16
-    ensures { result ≡ min n most_count }
-{
-    if n < MOST_COUNT { n } else { MOST_COUNT }
 }
 
 // The counts of cell c, none above the limit.
@@ -85,11 +69,9 @@ pub fn counts_at(counts: &[u16], sides: &[u16; MOST_EDGES], c: usize) -> [u16; 6
 {
     let m = c % MOST_CELLS;
     let mut six = [0u16; 6];
-    let mut k: usize = 0;
-    while k < 6 {
-        let e = wide16(sides[6 * m + k]);
-        six[k] = limited(entry(counts, e));
-        k += 1;
+    for k in 0..6 {
+        let e = sides[6 * m + k] as usize;
+        six[k] = entry(counts, e).min(MOST_COUNT);
     }
     six
 }
@@ -99,13 +81,8 @@ pub(crate) fn greatest(counts: &[u16]) -> u16
     ensures { (i : ℕ) → get_or counts.now i 0 ≤ result }
 {
     let mut most: u16 = 0;
-    let mut i: usize = 0;
-    while i < counts.len() {
-        let n = counts[i];
-        if most < n {
-            most = n;
-        }
-        i += 1;
+    for n in counts {
+        most = most.max(*n);
     }
     most
 }

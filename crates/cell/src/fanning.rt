@@ -17,11 +17,9 @@ fn fans_in_all(tables: Tables, marks: &mut [u16], halves: &mut [u8], points: &mu
 {
     let n = drawn(tables.cells);
     let mut t: usize = 0;
-    let mut c: usize = 0;
-    while c < n {
+    for c in 0..n {
         let x = counted_at(tables, c);
         t += fans_in(x.cell, x.crossings, marks, halves, points);
-        c += 1;
     }
     t
 }
@@ -60,11 +58,9 @@ fn middles_in_all(
     ensures sized { Sized marks.old halves.old points.old marks.new halves.new points.new }
 {
     let mut i = at;
-    let mut k = c;
-    while k < end {
+    for k in c..end {
         let x = counted_at(tables, k);
         i = middles_in(x.cell, x.crossings, marks, halves, points, nodes, area, i);
-        k += 1;
     }
     i
 }

@@ -5,7 +5,6 @@ ghost use Rattle.cell.specs.Common.{is_common};
 ghost use Rattle.cell.specs.work.Table.{is_known};
 
 use super::numbers::sum_of;
-use counting::{greatest32, least32};
 
 // One more than the greatest count of a common cell.
 pub const DIGIT_LIMIT: u16 = 3;
@@ -27,20 +26,16 @@ fn odd(a: u16, b: u16, c: u16) -> u32
 fn highest_pair(e01: u16, e02: u16, e03: u16, e12: u16, e13: u16, e23: u16) -> u32
     ensures { result ≡ max (max (e01 + e23) (e02 + e13)) (e03 + e12) }
 {
-    greatest32(
-        greatest32(sum_of(e01, e23), sum_of(e02, e13)),
-        sum_of(e03, e12),
-    )
+    sum_of(e01, e23).max(sum_of(e02, e13)).max(sum_of(e03, e12))
 }
 
 // The lowest sum of the counts at a node.
 fn lowest_node(e01: u16, e02: u16, e03: u16, e12: u16, e13: u16, e23: u16) -> u32
     ensures { result ≡ min (min (e01 + e02 + e03) (e01 + e12 + e13)) (min (e02 + e12 + e23) (e03 + e13 + e23)) }
 {
-    least32(
-        least32(sum_of_three(e01, e02, e03), sum_of_three(e01, e12, e13)),
-        least32(sum_of_three(e02, e12, e23), sum_of_three(e03, e13, e23)),
-    )
+    let low = sum_of_three(e01, e02, e03).min(sum_of_three(e01, e12, e13));
+    let high = sum_of_three(e02, e12, e23).min(sum_of_three(e03, e13, e23));
+    low.min(high)
 }
 
 // Whether no face of a cell with these counts, of the edges 01, 02, 03, 12, 13, 23, has an odd sum or a count above the other two. Of four faces an even
@@ -54,32 +49,20 @@ pub fn is_level(counts: [u16; 6]) -> bool
     let e12 = counts[3];
     let e13 = counts[4];
     let e23 = counts[5];
-    if odd(e01, e02, e12) + odd(e01, e03, e13) + odd(e02, e03, e23) != 0 {
-        return false;
-    }
-    highest_pair(e01, e02, e03, e12, e13, e23) <= lowest_node(e01, e02, e03, e12, e13, e23)
+    odd(e01, e02, e12) + odd(e01, e03, e13) + odd(e02, e03, e23) == 0
+        && highest_pair(e01, e02, e03, e12, e13, e23) <= lowest_node(e01, e02, e03, e12, e13, e23)
 }
 
 // Whether the six counts are 0, 1 or 2.
 pub fn is_common(counts: [u16; 6]) -> bool
     ensures { result ≡ is_common (by_edge counts) }
 {
-    let mut k: usize = 0;
-    while k < 6 {
-        if counts[k] >= DIGIT_LIMIT {
-            return false;
-        }
-        k += 1;
-    }
-    true
+    counts.iter().all(|n| *n < DIGIT_LIMIT)
 }
 
 // Whether the triangles of a cell with these counts are counted without a walk.
 pub(crate) fn is_known(counts: [u16; 6]) -> bool
     ensures { result ≡ is_known (by_edge counts) }
 {
-    if is_common(counts) {
-        return true;
-    }
-    is_level(counts)
+    is_common(counts) || is_level(counts)
 }

@@ -124,13 +124,6 @@ pub struct Triangle {
     pub side2: Side,
 }
 
-// Triangle t of a cell, or none where there are t or fewer.
-#[derive(Clone, Copy)]
-pub enum Nth {
-    Found(Triangle),
-    Nothing,
-}
-
 // The crossings of an edge: how many they are, and the number of the first in the cell and in the grid.
 #[derive(Clone, Copy)]
 struct Run {
@@ -185,11 +178,9 @@ fn loop_in(
     let routes = routes::routes_of(c);
     walks::clear(marks, n);
     let mut left = k;
-    let mut p: usize = 0;
-    while p < n {
+    for p in 0..n {
         let t = walks::walk(c, &routes, n, p, marks, halves, points);
         let m = t.length;
-        p += 1;
         if m == 0 {
             continue;
         }

@@ -5,7 +5,6 @@ ghost use Rattle.manifold.specs.Shape.{single, double, fan, shape_of, many_of};
 ghost use Rattle.cell.specs.work.Traced.{RecordedLoop, segment_at, traced_triangle};
 
 use super::{Cell, Corner, Side, Triangle};
-use counting::{least32, wide8, word16};
 
 // The place after k in a round of n.
 fn after_of(n: usize, k: usize) -> usize
@@ -21,9 +20,9 @@ fn segment_at(names: [u16; 4], halves: &[u8], points: &[u32], n: usize, k: usize
     requires k_lt_n { k < n }
     ensures { result ≡ segment_at names halves.now points.now n k }
 {
-    let s = wide8(halves[k]) / 3;
+    let s = halves[k] as usize / 3;
     let j = after_of(n, k);
-    Side::Segment(word16(names[s]), least32(points[k], points[j]))
+    Side::Segment(names[s] as u32, points[k].min(points[j]))
 }
 
 // The triangle of a loop of three.
@@ -111,7 +110,7 @@ pub(crate) fn spoke_of(c: Cell, halves: &[u8], points: &[u32], n: usize, k: usiz
 pub(crate) fn in_two(n: usize, normal: bool) -> bool
     ensures { result ≡ (eqb n 4 && normal) }
 {
-    if n == 4 { normal } else { false }
+    n == 4 && normal
 }
 
 // How many triangles a loop of n gives; `two` says that n is 4 and the loop normal.

@@ -21,16 +21,11 @@ use place::Place;
 pub(crate) fn fan_of(n: usize, normal: bool) -> usize
     ensures { result ≡ one (has_middle n normal) }
 {
-    if n == 0 {
-        return 0;
+    match n {
+        0 | 3 => 0,
+        4 if normal => 0,
+        _ => 1,
     }
-    if n == 3 {
-        return 0;
-    }
-    if n != 4 {
-        return 1;
-    }
-    if normal { 0 } else { 1 }
 }
 
 // The middle of a recorded loop of the cell with the nest q: in a nest by the nodes' places, else by the area's points.
@@ -82,11 +77,9 @@ fn count(c: Cell, n: usize, marks: &mut [u16], halves: &mut [u8], points: &mut [
     let routes = routes_of(c);
     clear(marks, n);
     let mut t: usize = 0;
-    let mut p: usize = 0;
-    while p < n {
+    for p in 0..n {
         let w = walk(c, &routes, n, p, marks, halves, points);
         t += fan_of(w.length, w.normal);
-        p += 1;
     }
     t
 }
@@ -111,12 +104,10 @@ fn write_all(
     let q = nest_in(c, n);
     clear(marks, n);
     let mut i = at;
-    let mut p: usize = 0;
-    while p < n {
+    for p in 0..n {
         let w = walk(c, &routes, n, p, marks, halves, points);
         let m = w.length;
         i = put_middle(c, q, nodes, &halves[0..m], &points[0..m], w.normal, area, i);
-        p += 1;
     }
     i
 }
@@ -144,13 +135,8 @@ fn is_below(c: Cell, n: usize) -> bool
     ensures { result ≡ numbered_below c n }
 {
     let mut last: usize = 0;
-    let mut e: usize = 0;
-    while e < 6 {
-        let end = end_of(c, e);
-        if last < end {
-            last = end;
-        }
-        e += 1;
+    for e in 0..6 {
+        last = last.max(end_of(c, e));
     }
     last <= n
 }
@@ -160,10 +146,7 @@ fn is_placeable(c: Cell, n: usize, at: usize) -> bool
     requires { n ≡ crossings (edges_of c) }
     ensures { result ≡ is_placeable c at }
 {
-    if is_below(c, at) {
-        return true;
-    }
-    nest_in(c, n).edge < 3
+    is_below(c, at) || nest_in(c, n).edge < 3
 }
 
 // Whether the cell's middles can be written from point `at` on, and have room there in an area of `room` numbers. A cell has no more fans than

@@ -15,7 +15,6 @@ use super::level::is_level;
 use super::numbers::sum_of;
 use super::routes::{count_of, start_of};
 use super::{Cell, Nest};
-use counting::{minus, wide16, wide32};
 use place::Place;
 use slots::{high_end, low_end};
 
@@ -24,10 +23,8 @@ pub fn taken_of(c: Cell) -> [u16; 6]
     ensures { result ≡ values (count_of c) 6 }
 {
     let mut six = [0u16; 6];
-    let mut k: usize = 0;
-    while k < 6 {
+    for k in 0..6 {
         six[k] = count_of(c, k);
-        k += 1;
     }
     six
 }
@@ -47,7 +44,7 @@ fn is_above(x: usize, y: usize, z: usize) -> bool
     requires { y ≤ most_sum }
     ensures { result ≡ exceeds x y z }
 {
-    if y == z { y + 2 < x } else { false }
+    y == z && y + 2 < x
 }
 
 // Which of the three is so; 3 where none is.
@@ -74,9 +71,9 @@ fn count_on(six: [u16; 6], e: usize) -> usize
 {
     let most = pair_of(six, e);
     if e == 0 {
-        return minus(most, pair_of(six, 1)) / 2;
+        return most.saturating_sub(pair_of(six, 1)) / 2;
     }
-    minus(most, pair_of(six, 0)) / 2
+    most.saturating_sub(pair_of(six, 0)) / 2
 }
 
 // The corner triangles at the lowest node, where the pair of edge e has the largest sum.
@@ -87,7 +84,7 @@ fn corner_on(six: [u16; 6], e: usize) -> usize
     let x = six[0];
     let y = six[1];
     let z = six[2];
-    minus(wide16(x) + wide16(y) + wide16(z), pair_of(six, e)) / 2
+    (x as usize + y as usize + z as usize).saturating_sub(pair_of(six, e)) / 2
 }
 
 // The nest on edge e, whose pair exceeds the others, of a cell in which only rule 1 is met.
@@ -97,7 +94,7 @@ fn nest_on(c: Cell, six: [u16; 6], e: usize) -> Nest
 {
     let m = count_on(six, e);
     let own = corner_on(six, e);
-    let start = wide32(start_of(c, e));
+    let start = start_of(c, e) as usize;
     Nest {
         edge: e,
         count: m,
@@ -148,7 +145,7 @@ fn corner_place(c: Cell, nodes: &[f64], k: usize) -> Place
     ensures { result ≡ corner_place nodes.now c k }
 {
     let v = c.nodes[k];
-    place::load(nodes, wide16(v))
+    place::load(nodes, v as usize)
 }
 
 // The point half way along edge k.
@@ -166,19 +163,17 @@ fn point_at(points: &[u32], k: usize) -> usize
     ensures { (result ≡ get_or points.now k 0) × (result < 4294967296) }
 {
     if k < points.len() {
-        return wide32(points[k]);
+        points[k] as usize
+    } else {
+        0
     }
-    0
 }
 
 // The greater of m and g, where edge k is e; else m.
 fn risen(m: usize, k: usize, e: usize, g: usize) -> usize
     ensures { result ≡ max m (pick (eqb k e) g 0) }
 {
-    if k != e {
-        return m;
-    }
-    if m < g { g } else { m }
+    if k == e { m.max(g) } else { m }
 }
 
 // The greatest number of a recorded loop on edge e.
@@ -186,10 +181,8 @@ fn highest_on(halves: &[u8], points: &[u32], e: usize) -> usize
     ensures { (result ≡ highest_on halves.now points.now e) × (result < 4294967296) }
 {
     let mut most: usize = 0;
-    let mut k: usize = 0;
-    while k < halves.len() {
+    for k in 0..halves.len() {
         most = risen(most, edge_at(halves, k), e, point_at(points, k));
-        k += 1;
     }
     most
 }
@@ -200,7 +193,7 @@ pub(crate) fn nested_middle(c: Cell, q: Nest, nodes: &[f64], halves: &[u8], poin
     ensures { result ≡ recorded_nested c q nodes.now halves.now points.now }
 {
     let e = q.edge;
-    let i = minus(highest_on(halves, points, e), q.low);
+    let i = highest_on(halves, points, e).saturating_sub(q.low);
     let a = half_along(c, nodes, e);
     let b = half_along(c, nodes, 5 - e);
     place::interpolate(a, b, place::part_of(i as u32, q.count as u32))

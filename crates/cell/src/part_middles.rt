@@ -35,18 +35,15 @@ fn write_each(
     let q = nest_in(c, n);
     clear(marks, n);
     let mut i = at;
-    let mut p: usize = 0;
-    while p < n {
+    for p in 0..n {
         let w = walk(c, &routes, n, p, marks, halves, points);
         let m = w.length;
         if fan_of(m, w.normal) == 0 {
-            p += 1;
             continue;
         }
         let v = middle_in(c, q, nodes, &halves[0..m], &points[0..m], area);
         place::store(area, i, v);
         i += 1;
-        p += 1;
     }
     i
 }

@@ -26,12 +26,10 @@ fn write_fan(c: Cell, halves: &[u8], points: &[u32], n: usize, area: &mut [u32],
     ensures { (result ≡ at + word_count * n) × (area.new ≡ sets area.old at (all_words (values (traced_triangle c halves.now points.now n fan) n))) }
 {
     let mut i = at;
-    let mut k: usize = 0;
-    while k < n {
+    for k in 0..n {
         let t = spoke_of(c, halves, points, n, k);
         put(area, i, t);
         i += WORD_COUNT;
-        k += 1;
     }
     i
 }
@@ -85,17 +83,14 @@ fn write_part(
     let routes = routes_of(c);
     clear(marks, n);
     let mut i = at;
-    let mut p: usize = 0;
-    while p < n {
+    for p in 0..n {
         let w = walk(c, &routes, n, p, marks, halves, points);
         let m = w.length;
         if leaves_out(only, m) {
-            p += 1;
             continue;
         }
         let two = in_two(m, w.normal);
         i = write_shape(c, &halves[0..m], &points[0..m], m, two, area, i);
-        p += 1;
     }
     i
 }

@@ -9,7 +9,6 @@ ghost use Rattle.cell.specs.work.Half.{half_edges};
 ghost use Rattle.cell.specs.work.Limits.{most_in_cell, start_limit};
 
 use super::{Cell, Run};
-use counting::{wide16, wide32};
 use slots::MOST_COUNT;
 
 // The columns of the routes.
@@ -50,8 +49,7 @@ pub(crate) fn count_of(c: Cell, e: usize) -> u16
     requires { e < 6 }
     ensures { result ≡ count_of c e }
 {
-    let n = c.counts[e];
-    if n < MOST_COUNT { n } else { MOST_COUNT }
+    c.counts[e].min(MOST_COUNT)
 }
 
 pub(crate) fn start_of(c: Cell, e: usize) -> u32
@@ -65,7 +63,7 @@ fn count_at(c: Cell, e: usize) -> usize
     requires { e < 6 }
     ensures { (result ≡ count_of c e) × (result ≤ most_count) }
 {
-    wide16(count_of(c, e))
+    count_of(c, e) as usize
 }
 
 // The crossing number after those of edge e.
@@ -73,7 +71,7 @@ pub(crate) fn end_of(c: Cell, e: usize) -> usize
     requires { e < 6 }
     ensures { result ≡ start_of c e + count_of c e }
 {
-    wide32(start_of(c, e)) + count_at(c, e)
+    start_of(c, e) as usize + count_at(c, e)
 }
 
 // How many crossings the cell has.
@@ -81,10 +79,8 @@ pub fn crossings_of(c: Cell) -> usize
     ensures { (result ≡ crossings (edges_of c)) × (result ≤ most_in_cell) }
 {
     let mut n: usize = 0;
-    let mut k: usize = 0;
-    while k < 6 {
+    for k in 0..6 {
         n += count_at(c, k);
-        k += 1;
     }
     n
 }
@@ -97,10 +93,7 @@ fn is_ahead(c: Cell, k: usize, j: usize) -> bool
 {
     let a = start_of(c, j);
     let b = start_of(c, k);
-    if a == b {
-        return j < k;
-    }
-    a < b
+    if a == b { j < k } else { a < b }
 }
 
 // How many crossings are laid before edge k.
@@ -109,14 +102,10 @@ fn laid_before(c: Cell, k: usize) -> usize
     ensures { result ≡ base (edges_of c) k }
 {
     let mut n: usize = 0;
-    let mut j: usize = 0;
-    while j < 6 {
+    for j in 0..6 {
         if is_ahead(c, k, j) {
             n += count_at(c, j);
-            j += 1;
-            continue;
         }
-        j += 1;
     }
     n
 }
@@ -126,10 +115,8 @@ fn laid_of(c: Cell) -> [usize; 6]
     ensures { Firsts c result }
 {
     let mut f = [0usize; 6];
-    let mut k: usize = 0;
-    while k < 6 {
+    for k in 0..6 {
         f[k] = laid_before(c, k);
-        k += 1;
     }
     f
 }
@@ -140,14 +127,12 @@ fn firsts_of(c: Cell) -> [usize; 6]
 {
     let mut f = [0usize; 6];
     let mut n = count_at(c, 0);
-    let mut k: usize = 1;
-    while k < 6 {
+    for k in 1..6 {
         if start_of(c, k) < start_of(c, k - 1) {
             return laid_of(c);
         }
         f[k] = n;
         n += count_at(c, k);
-        k += 1;
     }
     f
 }
@@ -172,7 +157,7 @@ fn run_of(c: Cell, firsts: &[usize; 6], e: usize) -> Run
     Run {
         count: count_of(c, e),
         first,
-        start: wide32(start_of(c, e)),
+        start: start_of(c, e) as usize,
     }
 }
 
@@ -183,7 +168,7 @@ fn put_front(t: &mut [usize; ROUTES], h: usize, low: usize, high: usize, x: Run)
 {
     t[COLUMNS * h + LOW] = low;
     t[COLUMNS * h + HIGH] = high;
-    t[COLUMNS * h + COUNT] = wide16(x.count);
+    t[COLUMNS * h + COUNT] = x.count as usize;
     t[COLUMNS * h + FIRST] = x.first;
     t[COLUMNS * h + START] = x.start;
 }
@@ -195,9 +180,9 @@ fn put_slot(c: Cell, t: &mut [usize; ROUTES], s: usize, ab: Run, ac: Run, bc: Ru
     ensures { t.new ≡ fronts (edges_of c) s t.old }
 {
     let corners = face::corners_of(ab.count, ac.count, bc.count);
-    let a = wide16(corners.a);
-    let b = wide16(corners.b);
-    let d = wide16(corners.c);
+    let a = corners.a as usize;
+    let b = corners.b as usize;
+    let d = corners.c as usize;
     put_front(t, 3 * s, a, b, ab);
     put_front(t, 3 * s + 1, a, d, ac);
     put_front(t, 3 * s + 2, b, d, bc);
@@ -226,12 +211,6 @@ pub(crate) fn routes_of(c: Cell) -> [usize; ROUTES]
 // One more than the greatest number that a start can have.
 const START_LIMIT: u32 = 67108864;
 
-fn start_within(x: u32) -> u32
-    ensures { result ≡ min x (start_limit - 1) }
-{
-    if x < START_LIMIT { x } else { START_LIMIT - 1 }
-}
-
 // The cell with its starts within their limit.
 pub(crate) fn within(c: Cell) -> Cell
     ensures { result ≡ limited c }
@@ -240,10 +219,8 @@ pub(crate) fn within(c: Cell) -> Cell
     let names = c.names;
     let nodes = c.nodes;
     let mut starts = [0u32; 6];
-    let mut k: usize = 0;
-    while k < 6 {
-        starts[k] = start_within(start_of(c, k));
-        k += 1;
+    for k in 0..6 {
+        starts[k] = start_of(c, k).min(START_LIMIT - 1);
     }
     Cell {
         counts,

@@ -16,16 +16,13 @@ use super::routes::{crossings_of, routes_of, within};
 use super::walks::{clear, walk};
 use super::words::WORD_COUNT;
 use super::write::write_loop;
-use super::{Cell, MOST_IN_CELL, Nth};
+use super::{Cell, MOST_IN_CELL, Triangle};
 
 // Whether a loop of n segments is left out where those of length `only` are asked for, or all where that is 0.
 pub(crate) fn leaves_out(only: usize, n: usize) -> bool
     ensures { result ≡ not (eqb only 0 || eqb n only) }
 {
-    if only == 0 {
-        return false;
-    }
-    n != only
+    only != 0 && n != only
 }
 
 // How many triangles the loops of the cell have that are asked for. It has n crossings, here and below.
@@ -44,15 +41,12 @@ fn count(
     let routes = routes_of(c);
     clear(marks, n);
     let mut t: usize = 0;
-    let mut p: usize = 0;
-    while p < n {
+    for p in 0..n {
         let w = walk(c, &routes, n, p, marks, halves, points);
         if leaves_out(only, w.length) {
-            p += 1;
             continue;
         }
         t += many(w.length, in_two(w.length, w.normal));
-        p += 1;
     }
     t
 }
@@ -75,13 +69,11 @@ fn write(
     let routes = routes_of(c);
     clear(marks, n);
     let mut i = at;
-    let mut p: usize = 0;
-    while p < n {
+    for p in 0..n {
         let w = walk(c, &routes, n, p, marks, halves, points);
         let m = w.length;
         let two = in_two(m, w.normal);
         i = write_loop(c, &halves[0..m], &points[0..m], m, two, area, i);
-        p += 1;
     }
     i
 }
@@ -137,8 +129,8 @@ pub fn triangle_count(c: Cell) -> usize
     count_in(v, n, 0, &mut marks, &mut halves, &mut points)
 }
 
-// Triangle t of the cell. About 168 KB of stack.
-pub fn triangle_at(c: Cell, t: usize) -> Nth
+// Triangle t of the cell, or none where it has t or fewer. About 168 KB of stack.
+pub fn triangle_at(c: Cell, t: usize) -> Option<Triangle>
     ensures { (result ≡ nth_of (cell_triangles (limited c)) t) × (nth_numbers result ≡ nth_answer (cell_triangles (limited c)) t) }
 {
     let mut marks = [0u16; MOST_IN_CELL];
@@ -149,19 +141,17 @@ pub fn triangle_at(c: Cell, t: usize) -> Nth
     let routes = routes_of(v);
     clear(&mut marks, n);
     let mut left = t;
-    let mut p: usize = 0;
-    while p < n {
+    for p in 0..n {
         let w = walk(v, &routes, n, p, &mut marks, &mut halves, &mut points);
         let m = w.length;
         let two = in_two(m, w.normal);
         let k = many(m, two);
         if left < k {
-            return Nth::Found(triangle_of(v, &halves[0..m], &points[0..m], m, two, left));
+            return Some(triangle_of(v, &halves[0..m], &points[0..m], m, two, left));
         }
         left -= k;
-        p += 1;
     }
-    Nth::Nothing
+    None
 }
 
 // Whether the words of the triangles have room from index `at` on in an area of `room` words. A cell has no more triangles than crossings, so that

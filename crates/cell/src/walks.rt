@@ -10,7 +10,6 @@ ghost use Rattle.cell.specs.work.Walked.{Located, Starts, is_met, Lent, Walked};
 
 use super::routes::ROUTES;
 use super::{Cell, Dart, Next, Trip, half_edges, routes, steps};
-use counting::wide16;
 
 // The mark of a crossing that no walk has come to.
 const UNMARKED: u16 = 65535;
@@ -24,10 +23,7 @@ fn is_on(c: Cell, routes: &[usize; ROUTES], e: usize, p: usize) -> bool
     let h = half_edges::first_of(e);
     let first = routes::route(routes, h, routes::FIRST);
     let n = routes::route(routes, h, routes::COUNT);
-    if first + n <= p {
-        return false;
-    }
-    first <= p
+    p < first + n && first <= p
 }
 
 // The first dart of crossing p, which is one of edge e.
@@ -50,14 +46,12 @@ fn start_at(c: Cell, routes: &[usize; ROUTES], p: usize) -> Dart
     requires p_bound { p < crossings (edges_of c) }
     ensures { Starts (edges_of c) p result }
 {
-    let mut e: usize = 0;
-    while e < 5 {
+    for e in 0..5 {
         if is_on(c, routes, e, p) {
             return first_dart(c, routes, e, p);
         }
-        e += 1;
     }
-    first_dart(c, routes, e, p)
+    first_dart(c, routes, 5, p)
 }
 
 // No loop.
@@ -71,18 +65,14 @@ pub(crate) fn clear(marks: &mut [u16], n: usize)
     requires { n ≤ length marks.old }
     ensures { marks.new ≡ filled (λ i. unmarked) n marks.old }
 {
-    let mut i: usize = 0;
-    while i < n {
-        marks[i] = UNMARKED;
-        i += 1;
-    }
+    marks[0..n].fill(UNMARKED);
 }
 
 // Whether no segment so far goes along its edge, after one more.
 fn still(normal: bool, along: bool) -> bool
     ensures { result ≡ (not along && normal) }
 {
-    if along { false } else { normal }
+    !along && normal
 }
 
 // Whether a walk from p ends at crossing x without a loop: x is below p, or an earlier walk has been there.
@@ -90,10 +80,7 @@ fn met(marks: &[u16], p: usize, x: usize) -> bool
     requires { x < length marks.now }
     ensures { result ≡ is_met marks.now p x }
 {
-    if x < p {
-        return true;
-    }
-    wide16(marks[x]) < p
+    x < p || (marks[x] as usize) < p
 }
 
 // Records the loop whose least crossing is p, and answers its length and whether it is normal; where there is no such loop, length 0. What the
@@ -116,6 +103,7 @@ pub(crate) fn walk(
     let mut d = start_at(c, routes, p);
     let mut k: usize = 0;
     let mut normal = true;
+    // Stays: a loop, since the next dart comes from the last and not from a range.
     loop {
         let h = d.half;
         halves[k] = h as u8;

@@ -20,24 +20,6 @@ fn corner_word(x: Corner) -> u32
     }
 }
 
-fn side_face(s: Side) -> u32
-    ensures { result ≡ get_or (side_words s) 0 0 }
-{
-    match s {
-        Side::Segment(f, _) => f,
-        Side::Inner(_) => NO_NAME,
-    }
-}
-
-fn side_number(s: Side) -> u32
-    ensures { result ≡ get_or (side_words s) 1 0 }
-{
-    match s {
-        Side::Segment(_, g) => g,
-        Side::Inner(k) => k,
-    }
-}
-
 fn put_two(area: &mut [u32], at: usize, x: u32, y: u32)
     requires { at + 2 ≤ length area.old }
     ensures { area.new ≡ sets area.old at (x ∷ y ∷ []) }
@@ -50,18 +32,18 @@ fn put_side(area: &mut [u32], at: usize, s: Side)
     requires { at + 2 ≤ length area.old }
     ensures { area.new ≡ sets area.old at (side_words s) }
 {
-    put_two(area, at, side_face(s), side_number(s));
+    match s {
+        Side::Segment(f, g) => put_two(area, at, f, g),
+        Side::Inner(k) => put_two(area, at, NO_NAME, k),
+    }
 }
 
 fn put_corners(area: &mut [u32], at: usize, t: Triangle)
     requires { at + 3 ≤ length area.old }
     ensures { area.new ≡ sets area.old at (corner_words t) }
 {
-    let x = t.corner0;
-    let y = t.corner1;
-    let z = t.corner2;
-    put_two(area, at, corner_word(x), corner_word(y));
-    area[at + 2] = corner_word(z);
+    put_two(area, at, corner_word(t.corner0), corner_word(t.corner1));
+    area[at + 2] = corner_word(t.corner2);
 }
 
 // Writes a triangle's words from index `at` on.
@@ -71,10 +53,7 @@ pub(crate) fn put(area: &mut [u32], at: usize, t: Triangle)
 {
     put_two(area, at, t.cell, t.p0);
     put_corners(area, at + 2, t);
-    let r = t.side0;
-    put_side(area, at + 5, r);
-    let s = t.side1;
-    put_side(area, at + 7, s);
-    let u = t.side2;
-    put_side(area, at + 9, u);
+    put_side(area, at + 5, t.side0);
+    put_side(area, at + 7, t.side1);
+    put_side(area, at + 9, t.side2);
 }

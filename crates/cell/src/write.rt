@@ -26,12 +26,10 @@ pub(crate) fn write_loop(
 {
     let m = many(n, two);
     let mut i = at;
-    let mut k: usize = 0;
-    while k < m {
+    for k in 0..m {
         let t = triangle_of(c, halves, points, n, two, k);
         put(area, i, t);
         i += WORD_COUNT;
-        k += 1;
     }
     i
 }

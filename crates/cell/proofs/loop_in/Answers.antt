@@ -16,9 +16,6 @@ loop-p-init c = let R = c.requires in (going_start _ (R.all, R.few) c.routes_of-
 pub walk-t-requires : goal.walk-t-requires
 walk-t-requires c = going_lent c.loop-p.invariant.0 (omega arith)
 
-pub overflow_add-p : goal.overflow_add-p
-overflow_add-p c = omega (arith, c.loop-p.invariant.0.few)
-
 pub loop-p-preserved-then-m-eq0 : goal.loop-p-preserved-then-m-eq0
 loop-p-preserved-then-m-eq0 c = let L = c.loop-p in
     let W = c.walk-t.ensures in

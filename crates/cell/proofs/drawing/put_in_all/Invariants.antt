@@ -6,6 +6,3 @@ use Rattle.cell.proofs.drawing.put_in_all.Given as goal
 
 abbrev pub invariant-loop-k : goal.invariant-loop-k
 invariant-loop-k l = ((l.c ≤ l.k) × (l.k - l.c ≤ l.end - l.c)) × Sized l.initial.marks l.initial.halves l.initial.points l.marks l.halves l.points × Put (table_cell l.tables.cells.now l.tables.counts.now l.tables.names.now l.tables.sides.now l.tables.starts.now) l.c l.initial.area l.at (l.k - l.c) l.area l.i
-
-abbrev pub decreases-loop-k : goal.decreases-loop-k
-decreases-loop-k l = l.end - l.k

@@ -31,7 +31,7 @@ pub drawn-n-requires : goal.drawn-n-requires
 drawn-n-requires c = tt
 
 pub loop-c-init : goal.loop-c-init
-loop-c-init c = (omega arith, sized_none _ _ _, summed_none _ _)
+loop-c-init c = (sized_none _ _ _, summed_none _ _)
 
 pub counts_at-requires : goal.counts_at-requires
 counts_at-requires c = tt
@@ -42,9 +42,8 @@ is_known-requires c = tt
 pub loop-c-preserved-then-is_known : goal.loop-c-preserved-then-is_known
 loop-c-preserved-then-is_known c = let A = c.args in
     let I = c.loop-c.invariant in (
-      omega arith,
-      I.1,
-      passed A.tables.cells.now A.tables.counts.now A.tables.names.now A.tables.sides.now A.tables.starts.now I.2
+      I.0,
+      passed A.tables.cells.now A.tables.counts.now A.tables.names.now A.tables.sides.now A.tables.starts.now I.1
           (ap (λ l. is_known (by_edge l)) (sym c.counts_at.ensures) ∙ sym c.is_known.ensures ∙ c.if-is_known.true),
     )
 
@@ -55,32 +54,31 @@ pub count_in-t-requires : goal.count_in-t-requires
 count_in-t-requires c = let A = c.args in
     let L = c.loop-c in
     let x = c.counted_at-x.ensures in
-    sized_room L.invariant.1 A.tables.cells.now A.tables.counts.now A.tables.names.now A.tables.sides.now A.tables.starts.now L.c c.requires x.0 x.1 x.2
+    sized_room L.invariant.0 A.tables.cells.now A.tables.counts.now A.tables.names.now A.tables.sides.now A.tables.starts.now L.c c.requires x.0 x.1 x.2
 
 pub overflow_add-t : goal.overflow_add-t
-overflow_add-t c = omega (arith, c.count_in-t.ensures.value.1, c.loop-c.invariant.2.few, c.drawn-n.ensures)
+overflow_add-t c = omega (arith, c.count_in-t.ensures.value.1, c.loop-c.invariant.1.few, c.drawn-n.ensures)
 
 pub loop-c-preserved : goal.loop-c-preserved
 loop-c-preserved c = let A = c.args in
     let I = c.loop-c.invariant in
     let N = c.count_in-t.ensures in (
-      omega arith,
-      sized_on I.1 (used_sized N.used),
-      walked A.tables.cells.now A.tables.counts.now A.tables.names.now A.tables.sides.now A.tables.starts.now I.2
+      sized_on I.0 (used_sized N.used),
+      walked A.tables.cells.now A.tables.counts.now A.tables.names.now A.tables.sides.now A.tables.starts.now I.1
           (ap (λ l. is_known (by_edge l)) (sym c.counts_at.ensures) ∙ sym c.is_known.ensures ∙ c.if-is_known.false)
           _ (N.value.0 ∙ ap length (with_all _) ∙ ap (λ v. length (cell_triangles v)) c.counted_at-x.ensures.0) N.value.1,
     )
 
 pub shape_of-marks : goal.shape_of-marks
-shape_of-marks c = c.loop-c.invariant.1.marks_same
+shape_of-marks c = c.loop-c.invariant.0.marks_same
 
 pub shape_of-halves : goal.shape_of-halves
-shape_of-halves c = c.loop-c.invariant.1.halves_same
+shape_of-halves c = c.loop-c.invariant.0.halves_same
 
 pub shape_of-points : goal.shape_of-points
-shape_of-points c = c.loop-c.invariant.1.points_same
+shape_of-points c = c.loop-c.invariant.0.points_same
 
 pub returns : goal.returns
 returns c = let I = c.loop-c.invariant in
     let d = c.drawn-n.ensures in
-    record { value = (summed_all _ _ I.2 (omega (arith, d)), omega (arith, I.2.few, d)); sized = I.1 }
+    record { value = (summed_all _ _ I.1 (omega (arith, d)), omega (arith, I.1.few, d)); sized = I.0 }

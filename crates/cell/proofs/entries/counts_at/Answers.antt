@@ -1,7 +1,6 @@
 use Prim.Native.Nat.{min}
 use mathlib.Core.Path.{refl, ap, ◌∙◌}
 use native.Mathlib.Omega.{arith}
-use lib.ListN.{get_or}
 use Rattle.slots.specs.Limits.{most_count}
 use Rattle.cell.proofs.Values.{valued_none, valued_more, valued_all}
 use Rattle.cell.proofs.entries.counts_at.Goals as goal
@@ -9,19 +8,13 @@ use Rattle.cell.proofs.entries.counts_at.Goals as goal
 pub loop-k-init : goal.loop-k-init
 loop-k-init c = valued_none _ _ refl
 
-pub wide16-e-requires : goal.wide16-e-requires
-wide16-e-requires c = tt
-
 pub entry-requires : goal.entry-requires
 entry-requires c = tt
-
-pub limited-requires : goal.limited-requires
-limited-requires c = tt
 
 pub loop-k-preserved : goal.loop-k-preserved
 loop-k-preserved c =
     valued_more _ _ c.loop-k.invariant (omega arith) _
-    (c.limited.ensures ∙ ap (λ n. min n most_count) (c.entry.ensures ∙ ap (λ e. get_or c.args.counts.now e 0) c.wide16-e.ensures.0))
+    (c.min.ensures ∙ ap (λ n. min n most_count) c.entry.ensures)
 
 pub returns : goal.returns
 returns c = valued_all _ _ c.loop-k.invariant (omega arith)

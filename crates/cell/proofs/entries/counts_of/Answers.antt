@@ -7,19 +7,10 @@ use Rattle.cell.proofs.entries.counts_of.Goals as goal
 pub loop-k-init : goal.loop-k-init
 loop-k-init c = valued_none _ _ refl
 
-pub entry-requires : goal.entry-requires
-entry-requires c = tt
-
-pub wide16-e-requires : goal.wide16-e-requires
-wide16-e-requires c = tt
-
-pub entry-requires-in-loop-k : goal.entry-requires-in-loop-k
-entry-requires-in-loop-k c = tt
-
 pub loop-k-preserved : goal.loop-k-preserved
 loop-k-preserved c =
     valued_more _ _ c.loop-k.invariant (omega arith) _
-    (c.entry-in-loop-k.ensures ∙ ap (λ e. get_or c.args.counts.now e 0) (c.wide16-e.ensures.0 ∙ c.entry.ensures))
+    (c.entry.ensures ∙ ap (λ e. get_or c.args.counts.now e 0) c.entry-e.ensures)
 
 pub returns : goal.returns
 returns c = valued_all _ _ c.loop-k.invariant (omega arith)

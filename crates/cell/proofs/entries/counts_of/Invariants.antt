@@ -1,4 +1,3 @@
-use Prim.Native.Nat.{◌-◌}
 use lib.ListN.{get_or}
 use Rattle.cell.specs.claims.Table.{side}
 use Rattle.cell.proofs.Values.{Valued}
@@ -6,6 +5,3 @@ use Rattle.cell.proofs.entries.counts_of.Given as goal
 
 abbrev pub invariant-loop-k : goal.invariant-loop-k
 invariant-loop-k l = Valued (λ j. get_or l.counts (side l.sides l.c j) 0) 6 l.initial.six l.k l.six
-
-abbrev pub decreases-loop-k : goal.decreases-loop-k
-decreases-loop-k l = 6 - l.k

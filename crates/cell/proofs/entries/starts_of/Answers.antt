@@ -9,19 +9,10 @@ use Rattle.cell.proofs.entries.starts_of.Goals as goal
 pub loop-k-init : goal.loop-k-init
 loop-k-init c = valued_none _ _ refl
 
-pub entry-requires : goal.entry-requires
-entry-requires c = tt
-
-pub wide16-e-requires : goal.wide16-e-requires
-wide16-e-requires c = tt
-
-pub start_at-requires : goal.start_at-requires
-start_at-requires c = tt
-
 pub loop-k-preserved : goal.loop-k-preserved
 loop-k-preserved c =
     valued_more _ _ c.loop-k.invariant (omega arith) _
-    (c.start_at.ensures ∙ ap (λ e. get_or c.args.starts.now e 0 % short_limit) (c.wide16-e.ensures.0 ∙ c.entry.ensures))
+    (c.start_at.ensures ∙ ap (λ e. get_or c.args.starts.now e 0 % short_limit) c.entry-e.ensures)
 
 pub returns : goal.returns
 returns c = valued_all _ _ c.loop-k.invariant (omega arith)

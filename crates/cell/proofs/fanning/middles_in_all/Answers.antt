@@ -18,9 +18,6 @@ middles_in-i-requires c = let A = c.args in
     let x = c.counted_at-x.ensures in
     sized_room L.invariant.1 A.tables.cells.now A.tables.counts.now A.tables.names.now A.tables.sides.now A.tables.starts.now L.k c.requires x.0 x.1 x.2
 
-pub overflow_add-k : goal.overflow_add-k
-overflow_add-k c = omega (arith, c.ranges)
-
 pub loop-k-preserved : goal.loop-k-preserved
 loop-k-preserved c = let A = c.args in
     let L = c.loop-k in

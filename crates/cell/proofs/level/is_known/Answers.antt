@@ -14,7 +14,7 @@ common : (w : ℕ → ℕ) → true ≡ is_common w → true ≡ is_known w
 common w e = either w true (is_level_cell w) e refl
 
 pub returns-then-is_common : goal.returns-then-is_common
-returns-then-is_common c = common (by_edge c.args.counts) (sym c.if-is_common.true ∙ c.is_common.ensures)
+returns-then-is_common c = c.if-is_common.true ∙ common (by_edge c.args.counts) (sym c.if-is_common.true ∙ c.is_common.ensures)
 
-pub returns : goal.returns
-returns c = either (by_edge c.args.counts) false c.is_level.result (sym c.if-is_common.false ∙ c.is_common.ensures) c.is_level.ensures
+pub returns-else-is_common : goal.returns-else-is_common
+returns-else-is_common c = either (by_edge c.args.counts) false c.is_level.result (sym c.if-is_common.false ∙ c.is_common.ensures) c.is_level.ensures

@@ -27,9 +27,6 @@ fan_of-t-requires c = tt
 pub overflow_add-t : goal.overflow_add-t
 overflow_add-t c = omega (arith, fans_more (going_looped c.loop-p.invariant.0 (omega arith) c.walk-w.ensures) c.loop-p.invariant.1 c.fan_of-t.ensures, count_le (is_fan c.args.c) (c.loop-p.p + 1), c.loop-p.invariant.0.few)
 
-pub overflow_add-p : goal.overflow_add-p
-overflow_add-p c = omega (arith, c.loop-p.invariant.0.few)
-
 pub loop-p-preserved : goal.loop-p-preserved
 loop-p-preserved c = (going_more c.loop-p.invariant.0 (omega arith) c.walk-w.ensures, fans_more (going_looped c.loop-p.invariant.0 (omega arith) c.walk-w.ensures) c.loop-p.invariant.1 c.fan_of-t.ensures)
 

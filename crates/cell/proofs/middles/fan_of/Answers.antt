@@ -1,18 +1,16 @@
 use native.Mathlib.Omega.{arith}
+use mathlib.Core.Logic.{⊎_elim}
 use Rattle.cell.proofs.Fans.{fan_none, fan_three, fan_normal, fan_else}
 use Rattle.cell.proofs.middles.fan_of.Goals as goal
 
-pub returns-then-n-eq0 : goal.returns-then-n-eq0
-returns-then-n-eq0 c = fan_none _ _ c.if-n-eq0.true
+pub returns-in-0 : goal.returns-in-0
+returns-in-0 c = ⊎_elim (fan_none _ _) (fan_three _ _) c.in-0.is
 
-pub returns-then-n-eq3 : goal.returns-then-n-eq3
-returns-then-n-eq3 c = fan_three _ _ c.if-n-eq3.true
+pub returns-in-4 : goal.returns-in-4
+returns-in-4 c = fan_normal _ _ c.in-4.is c.if-normal.true
 
-pub returns-then-n-ne4 : goal.returns-then-n-ne4
-returns-then-n-ne4 c = fan_else _ _ c.if-n-eq0.false c.if-n-eq3.false (λ e. absurd (c.if-n-ne4.true e))
+pub returns-in_default : goal.returns-in_default
+returns-in_default c = fan_else _ _ (omega arith) (omega arith) (λ e. c.if-normal.false)
 
-pub returns-then-normal : goal.returns-then-normal
-returns-then-normal c = fan_normal _ _ (omega (arith, c.if-n-ne4.false)) c.if-normal.true
-
-pub returns-else-normal : goal.returns-else-normal
-returns-else-normal c = fan_else _ _ c.if-n-eq0.false c.if-n-eq3.false (λ e. c.if-normal.false)
+pub returns-in_default-2 : goal.returns-in_default-2
+returns-in_default-2 c = fan_else _ _ (grind (arith, c.in_default)) (grind (arith, c.in_default)) (λ e. absurd (grind (arith, c.in_default)))

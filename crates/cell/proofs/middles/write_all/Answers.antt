@@ -32,9 +32,6 @@ put_middle-i-requires c = let A = c.args in
     let L = c.loop-p in
     (c.nest_in-q.ensures.few, middle_room A.nodes.now A.c A.area.now A.at c.requires.middles_room L.i L.invariant.1 (going_looped L.invariant.0 (omega arith) c.walk-w.ensures))
 
-pub overflow_add-p : goal.overflow_add-p
-overflow_add-p c = omega (arith, c.loop-p.invariant.0.few)
-
 pub loop-p-preserved : goal.loop-p-preserved
 loop-p-preserved c = let A = c.args in
     let L = c.loop-p in (

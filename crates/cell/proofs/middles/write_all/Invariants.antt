@@ -1,4 +1,4 @@
-use Prim.Native.Nat.{◌-◌, ◌*◌}
+use Prim.Native.Nat.{◌*◌}
 use Rattle.counting.specs.Lists.{over}
 use Rattle.counting.specs.work.Stored.{Stored}
 use Rattle.place.specs.Place.{coordinates}
@@ -8,6 +8,3 @@ use Rattle.cell.proofs.middles.write_all.Given as goal
 
 abbrev pub invariant-loop-p : goal.invariant-loop-p
 invariant-loop-p l = Going l.c l.n l.routes l.initial.marks l.initial.halves l.initial.points l.marks l.halves l.points l.p × Stored l.initial.area (coordinates * l.at) (over (middle_of l.nodes l.c l.initial.area) l.p 0) l.area (coordinates * l.i)
-
-abbrev pub decreases-loop-p : goal.decreases-loop-p
-decreases-loop-p l = l.n - l.p

@@ -9,15 +9,14 @@ use Rattle.cell.proofs.Nesting.{greatest_none, greatest_more, risen_few}
 use Rattle.cell.proofs.nests.highest_on.Goals as goal
 
 pub loop-k-init : goal.loop-k-init
-loop-k-init c = (omega arith, greatest_none _, omega arith)
+loop-k-init c = (greatest_none _, omega arith)
 
 pub loop-k-preserved : goal.loop-k-preserved
 loop-k-preserved c = let L = c.loop-k in (
-  omega arith,
-  greatest_more _ L.k L.invariant.1 (c.risen-most.ensures ∙ ap₂ (λ d g. max L.most (pick (eqb d c.args.e) g 0)) c.edge_at.ensures c.point_at.ensures.0),
-  risen_few c.edge_at.result c.args.e L.invariant.2 c.point_at.ensures.1 c.risen-most.ensures,
+  greatest_more _ L.k L.invariant.0 (c.risen-most.ensures ∙ ap₂ (λ d g. max L.most (pick (eqb d c.args.e) g 0)) c.edge_at.ensures c.point_at.ensures.0),
+  risen_few c.edge_at.result c.args.e L.invariant.1 c.point_at.ensures.1 c.risen-most.ensures,
 )
 
 pub returns : goal.returns
 unfolding highest_on
-returns c = (c.loop-k.invariant.1 ∙ ap (greatest_of _) (omega (arith, c.loop-k.invariant.0)), c.loop-k.invariant.2)
+returns c = (c.loop-k.invariant.0 ∙ ap (greatest_of _) (omega arith), c.loop-k.invariant.1)

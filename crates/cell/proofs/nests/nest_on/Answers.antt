@@ -1,5 +1,4 @@
 use native.Mathlib.Omega.{arith}
-use mathlib.Core.Path.{◌∙◌}
 use Rattle.cell.proofs.Nesting.{on_count, on_low}
 use Rattle.cell.proofs.nests.nest_on.Goals as goal
 
@@ -9,19 +8,19 @@ count_on-m-requires c = c.requires.edge_lt
 pub corner_on-own-requires : goal.corner_on-own-requires
 corner_on-own-requires c = c.requires.edge_lt
 
-pub start_of-requires : goal.start_of-requires
-start_of-requires c = omega (arith, c.requires.edge_lt)
+pub start_of-start-requires : goal.start_of-start-requires
+start_of-start-requires c = omega (arith, c.requires.edge_lt)
 
 pub overflow_add-result : goal.overflow_add-result
-overflow_add-result c = omega (arith, c.wide32-start.ensures.1, c.corner_on-own.ensures.1, c.count_on-m.ensures.1)
+overflow_add-result c = omega (arith, c.corner_on-own.ensures.1, c.count_on-m.ensures.1)
 
 pub overflow_add-result-2 : goal.overflow_add-result-2
-overflow_add-result-2 c = omega (arith, c.wide32-start.ensures.1, c.corner_on-own.ensures.1, c.count_on-m.ensures.1)
+overflow_add-result-2 c = omega (arith, c.corner_on-own.ensures.1, c.count_on-m.ensures.1)
 
 pub returns : goal.returns
 returns c = record {
   edge_is = c.requires.edge_is;
   count_is = λ l. on_count c.requires c.count_on-m.ensures.0;
-  low_is = λ l. on_low c.requires (c.wide32-start.ensures.0 ∙ c.start_of.ensures) c.corner_on-own.ensures.0 c.count_on-m.ensures.0;
+  low_is = λ l. on_low c.requires c.start_of-start.ensures c.corner_on-own.ensures.0 c.count_on-m.ensures.0;
   few = c.count_on-m.ensures.1;
 }

@@ -22,9 +22,6 @@ loop-p-init c = let R = c.requires.room in
 pub walk-w-requires : goal.walk-w-requires
 walk-w-requires c = going_lent c.loop-p.invariant.0 (omega arith)
 
-pub overflow_add-p : goal.overflow_add-p
-overflow_add-p c = omega (arith, c.loop-p.invariant.0.few)
-
 pub loop-p-preserved-then-fan_of-eq0 : goal.loop-p-preserved-then-fan_of-eq0
 loop-p-preserved-then-fan_of-eq0 c = let A = c.args in
     let L = c.loop-p in
@@ -49,9 +46,6 @@ overflow_add-i c = let A = c.args in
     let L = c.loop-p in
     let K = going_looped L.invariant.0 (omega (arith, c.loop-p-test)) c.walk-w.ensures in
     omega (arith, middle_room A.nodes.now A.c A.area.now A.at c.requires.middles_room L.i L.invariant.1 K, stored_long L.invariant.1, c.well_formed)
-
-pub overflow_add-p-in-loop-p : goal.overflow_add-p-in-loop-p
-overflow_add-p-in-loop-p c = omega (arith, c.loop-p.invariant.0.few)
 
 pub loop-p-preserved : goal.loop-p-preserved
 loop-p-preserved c = let A = c.args in

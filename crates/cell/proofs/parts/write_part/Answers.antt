@@ -27,9 +27,6 @@ walk-w-requires c = going_lent c.loop-p.invariant.0 (omega arith)
 pub leaves_out-requires : goal.leaves_out-requires
 leaves_out-requires c = tt
 
-pub overflow_add-p : goal.overflow_add-p
-overflow_add-p c = omega (arith, c.loop-p.invariant.0.few)
-
 pub loop-p-preserved-then-leaves_out : goal.loop-p-preserved-then-leaves_out
 loop-p-preserved-then-leaves_out c = let L = c.loop-p in
     let W = c.walk-w.ensures in
@@ -47,9 +44,6 @@ slice_bounds-write_shape-end-in-loop-p c = (going_part c.loop-p.invariant.0 (ome
 pub write_shape-i-requires : goal.write_shape-i-requires
 unfolding triangles_with
 write_shape-i-requires c = let L = going_looped c.loop-p.invariant.0 (omega arith) c.walk-w.ensures in let a = in-loop c.args.only L c.leaves_out.ensures c.if-leaves_out.false in record { recorded_loop = looped_traced L; n_value = looped_four L c.in_two-two.ensures; n_in_bounds = omega (arith, ap length a, looped_many L c.in_two-two.ensures, written_room _ _ c.loop-p.invariant.1 _ (going_in c.loop-p.invariant.0 (omega arith)), stored_long c.loop-p.invariant.1, c.requires.only_in_bounds) }
-
-pub overflow_add-p-in-loop-p : goal.overflow_add-p-in-loop-p
-overflow_add-p-in-loop-p c = omega (arith, c.loop-p.invariant.0.few)
 
 pub loop-p-preserved : goal.loop-p-preserved
 loop-p-preserved c = let L = going_looped c.loop-p.invariant.0 (omega arith) c.walk-w.ensures in let a = in-loop c.args.only L c.leaves_out.ensures c.if-leaves_out.false in (going_more c.loop-p.invariant.0 (omega arith) c.walk-w.ensures, written_more _ _ c.loop-p.invariant.1 (looped_many L c.in_two-two.ensures ∙ ap length (sym a)) c.write_shape-i.ensures.0 (looped_loop L c.in_two-two.ensures ∙ sym a) c.write_shape-i.ensures.1)

@@ -1,10 +1,7 @@
-use Prim.Native.Nat.{◌-◌, ◌≤◌}
+use Prim.Native.Nat.{◌≤◌}
 use Rattle.cell.specs.Of.{edges_of}
 use Rattle.cell.proofs.Route.{Rises}
 use Rattle.cell.proofs.routes.firsts_of.Given as goal
 
 abbrev pub invariant-loop-k : goal.invariant-loop-k
-invariant-loop-k l = (1 ≤ l.k) × (l.k ≤ 6) × Rises (edges_of l.c) l.k l.n l.f
-
-abbrev pub decreases-loop-k : goal.decreases-loop-k
-decreases-loop-k l = 6 - l.k
+invariant-loop-k l = (1 ≤ l.k) × Rises (edges_of l.c) l.k l.n l.f

@@ -10,4 +10,4 @@ returns c = let h = c.args.h in
     let q : 9 * h + 2 ≡ suc (suc (9 * h)) = omega arith in
     let r : 9 * h + 3 ≡ suc (suc (suc (9 * h))) = omega arith in
     let s : 9 * h + 4 ≡ suc (suc (suc (suc (9 * h)))) = omega arith in
-    rw (o, p, q, r, s, c.wide16.ensures.0) refl
+    rw (o, p, q, r, s) refl

@@ -9,13 +9,10 @@ use Rattle.cell.proofs.routes.within.Goals as goal
 pub loop-k-init : goal.loop-k-init
 loop-k-init c = valued_none _ _ refl
 
-pub start_within-requires : goal.start_within-requires
-start_within-requires c = tt
-
 pub loop-k-preserved : goal.loop-k-preserved
 loop-k-preserved c =
     valued_more _ _ c.loop-k.invariant (omega arith) _
-    (c.start_within.ensures ∙ ap (λ x. min x (start_limit - 1)) c.start_of.ensures)
+    (c.min.ensures ∙ ap (λ x. min x (start_limit - 1)) c.start_of.ensures)
 
 pub returns : goal.returns
 unfolding limited

@@ -6,6 +6,3 @@ use Rattle.cell.proofs.routes.within.Given as goal
 
 abbrev pub invariant-loop-k : goal.invariant-loop-k
 invariant-loop-k l = Valued (λ e. min (start_of l.c e) (start_limit - 1)) 6 l.initial.starts l.k l.starts
-
-abbrev pub decreases-loop-k : goal.decreases-loop-k
-decreases-loop-k l = 6 - l.k

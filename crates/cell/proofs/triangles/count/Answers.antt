@@ -22,9 +22,6 @@ walk-w-requires c = going_lent c.loop-p.invariant.0 (omega arith)
 pub leaves_out-requires : goal.leaves_out-requires
 leaves_out-requires c = tt
 
-pub overflow_add-p : goal.overflow_add-p
-overflow_add-p c = omega (arith, c.loop-p.invariant.0.few)
-
 pub loop-p-preserved-then-leaves_out : goal.loop-p-preserved-then-leaves_out
 loop-p-preserved-then-leaves_out c = let L = c.loop-p in
     let W = c.walk-w.ensures in
@@ -39,9 +36,6 @@ many-t-requires c = two_four _ _ _ c.in_two.ensures
 
 pub overflow_add-t : goal.overflow_add-t
 overflow_add-t c = omega (arith, (counted_more c.args.only (going_looped c.loop-p.invariant.0 (omega arith) c.walk-w.ensures) c.loop-p.invariant.1 _ (is-in c.args.only (going_looped c.loop-p.invariant.0 (omega arith) c.walk-w.ensures) c.leaves_out.ensures c.if-leaves_out.false) (c.many-t.ensures ∙ looped_many (going_looped c.loop-p.invariant.0 (omega arith) c.walk-w.ensures) c.in_two.ensures)).few, c.loop-p.invariant.0.few)
-
-pub overflow_add-p-in-loop-p : goal.overflow_add-p-in-loop-p
-overflow_add-p-in-loop-p c = omega (arith, c.loop-p.invariant.0.few)
 
 pub loop-p-preserved : goal.loop-p-preserved
 loop-p-preserved c = (going_more c.loop-p.invariant.0 (omega arith) c.walk-w.ensures, counted_more c.args.only (going_looped c.loop-p.invariant.0 (omega arith) c.walk-w.ensures) c.loop-p.invariant.1 _ (is-in c.args.only (going_looped c.loop-p.invariant.0 (omega arith) c.walk-w.ensures) c.leaves_out.ensures c.if-leaves_out.false) (c.many-t.ensures ∙ looped_many (going_looped c.loop-p.invariant.0 (omega arith) c.walk-w.ensures) c.in_two.ensures))

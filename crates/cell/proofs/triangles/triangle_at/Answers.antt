@@ -2,7 +2,8 @@ use native.Mathlib.Omega.{arith}
 use Prim.Native.Nat.{ℕ}
 use mathlib.Core.Path.{◌≡◌, refl, sym, ◌∙◌, subst}
 use Rattle.cell.specs.declared.Cell.{Cell}
-use Rattle.cell.specs.declared.Nth.{Nth}
+use Rattle.std.proofs.Common.{Option}
+use Rattle.cell.specs.declared.Triangle.{Triangle}
 use Rattle.cell.specs.work.Route.{Near}
 use Rattle.cell.specs.work.Nth.{nth_of, nth_numbers, nth_answer}
 use Rattle.cell.specs.Triangles.{cell_triangles}
@@ -15,7 +16,7 @@ use Rattle.cell.proofs.Cells.{seeking_none, seeking_more, triangle_off, triangle
 use Rattle.cell.proofs.triangles.triangle_at.Goals as goal
 
 -- what is found in a cell with its starts within the limit
-as_limited : (t : ℕ) {v w : Cell} {r : Nth} → v ≡ w → (r ≡ nth_of (cell_triangles v) t) × (nth_numbers r ≡ nth_answer (cell_triangles v) t)
+as_limited : (t : ℕ) {v w : Cell} {r : Option Triangle} → v ≡ w → (r ≡ nth_of (cell_triangles v) t) × (nth_numbers r ≡ nth_answer (cell_triangles v) t)
     → (r ≡ nth_of (cell_triangles w) t) × (nth_numbers r ≡ nth_answer (cell_triangles w) t)
 as_limited t {v} {w} {r} e h = subst (λ x. (r ≡ nth_of (cell_triangles x) t) × (nth_numbers r ≡ nth_answer (cell_triangles x) t)) e h
 
@@ -66,9 +67,6 @@ triangle_of-requires c = let L = going_looped c.loop-p.invariant.0 (omega arith)
 
 pub returns-then-left-k : goal.returns-then-left-k
 returns-then-left-k c = let L = going_looped c.loop-p.invariant.0 (omega arith) c.walk-w.ensures in as_limited c.args.t c.within-v.ensures (triangle_here _ c.loop-p.invariant.1 (going_in c.loop-p.invariant.0 (omega arith)) _ (looped_loop L c.in_two-two.ensures) (omega (arith, looped_many L c.in_two-two.ensures, c.many-k.ensures)) (traced_entry _ _ _ _ _ _ (omega (arith, c.many-k.ensures)) c.triangle_of.ensures))
-
-pub overflow_add-p : goal.overflow_add-p
-overflow_add-p c = omega (arith, c.loop-p.invariant.0.few)
 
 pub loop-p-preserved : goal.loop-p-preserved
 loop-p-preserved c = (going_more c.loop-p.invariant.0 (omega arith) c.walk-w.ensures, seeking_more _ c.loop-p.invariant.1 _ (c.many-k.ensures ∙ looped_many (going_looped c.loop-p.invariant.0 (omega arith) c.walk-w.ensures) c.in_two-two.ensures) (omega arith))

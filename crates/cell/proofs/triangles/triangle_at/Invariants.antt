@@ -1,4 +1,3 @@
-use Prim.Native.Nat.{◌-◌}
 use Rattle.cell.specs.Triangles.{loop_triangles}
 use Rattle.cell.proofs.Going.{Going}
 use Rattle.cell.proofs.Cells.{Seeking}
@@ -6,6 +5,3 @@ use Rattle.cell.proofs.triangles.triangle_at.Given as goal
 
 abbrev pub invariant-loop-p : goal.invariant-loop-p
 invariant-loop-p l = Going l.v l.n l.routes l.initial.marks l.initial.halves l.initial.points l.marks l.halves l.points l.p × Seeking (loop_triangles l.v) l.t l.p l.left
-
-abbrev pub decreases-loop-p : goal.decreases-loop-p
-decreases-loop-p l = l.n - l.p

@@ -37,9 +37,6 @@ pub write_loop-i-requires : goal.write_loop-i-requires
 unfolding triangles_with
 write_loop-i-requires c = let L = going_looped c.loop-p.invariant.0 (omega arith) c.walk-w.ensures in let a = in-loop 0 L refl refl in record { recorded_loop = looped_traced L; n_value = looped_four L c.in_two-two.ensures; n_in_bounds = omega (arith, ap length a, looped_many L c.in_two-two.ensures, written_room _ _ c.loop-p.invariant.1 _ (going_in c.loop-p.invariant.0 (omega arith)), stored_long c.loop-p.invariant.1, c.requires.c_in_bounds) }
 
-pub overflow_add-p : goal.overflow_add-p
-overflow_add-p c = omega (arith, c.loop-p.invariant.0.few)
-
 pub loop-p-preserved : goal.loop-p-preserved
 loop-p-preserved c = let L = going_looped c.loop-p.invariant.0 (omega arith) c.walk-w.ensures in let a = in-loop 0 L refl refl in (going_more c.loop-p.invariant.0 (omega arith) c.walk-w.ensures, written_more _ _ c.loop-p.invariant.1 (looped_many L c.in_two-two.ensures ∙ ap length (sym a)) c.write_loop-i.ensures.0 (looped_loop L c.in_two-two.ensures ∙ sym a) c.write_loop-i.ensures.1)
 

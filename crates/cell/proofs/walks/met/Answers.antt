@@ -1,9 +1,10 @@
 use mathlib.Core.Path.{sym}
+use borrow.Author.Tests.{lt-ltb}
 use Rattle.cell.proofs.Recording.{met_low, met_mark}
 use Rattle.cell.proofs.walks.met.Goals as goal
 
 pub returns-then-x-p : goal.returns-then-x-p
-returns-then-x-p c = sym (met_low _ _ _ c.if-x-p.true)
+returns-then-x-p c = rw (lt-ltb _ _ c.if-x-p.true) (sym (met_low _ _ _ c.if-x-p.true))
 
-pub returns : goal.returns
-returns c = rw c.wide16.ensures.0 (sym (met_mark _ _ _ c.if-x-p.false))
+pub returns-else-x-p : goal.returns-else-x-p
+returns-else-x-p c = sym (met_mark _ _ _ c.if-x-p.false)

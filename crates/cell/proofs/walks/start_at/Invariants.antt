@@ -1,4 +1,4 @@
-use Prim.Native.Nat.{ℕ, ◌-◌, ◌≤◌, ◌<◌}
+use Prim.Native.Nat.{ℕ, ◌<◌}
 use mathlib.Core.Path.{◌≡◌}
 use mathlib.Core.Bool.{false}
 use Rattle.cell.specs.Cell.{holds}
@@ -6,7 +6,4 @@ use Rattle.cell.specs.Of.{edges_of}
 use Rattle.cell.proofs.walks.start_at.Given as goal
 
 abbrev pub invariant-loop-e : goal.invariant-loop-e
-invariant-loop-e l = (l.e ≤ 5) × ((i : ℕ) → i < l.e → holds (edges_of l.c) l.p i ≡ false)
-
-abbrev pub decreases-loop-e : goal.decreases-loop-e
-decreases-loop-e l = 5 - l.e
+invariant-loop-e l = ((i : ℕ) → i < l.e → holds (edges_of l.c) l.p i ≡ false)

@@ -8,26 +8,23 @@ pub many-m-requires : goal.many-m-requires
 many-m-requires c = c.requires.n_value
 
 pub loop-k-init : goal.loop-k-init
-loop-k-init c = (c.many-m.ensures, omega arith, run_none _ _ _)
+loop-k-init c = (c.many-m.ensures, run_none _ _ _)
 
 pub triangle_of-t-requires : goal.triangle_of-t-requires
 triangle_of-t-requires c = record { recorded_loop = c.requires.recorded_loop; n_value = c.requires.n_value; k_bound = omega arith }
 
 pub put-requires : goal.put-requires
-put-requires c = omega (arith, run_place c.loop-k.invariant.2, stored_long c.loop-k.invariant.2.stored, c.loop-k.invariant.0, c.requires.n_in_bounds)
+put-requires c = omega (arith, run_place c.loop-k.invariant.1, stored_long c.loop-k.invariant.1.stored, c.loop-k.invariant.0, c.requires.n_in_bounds)
 
 pub overflow_add-i : goal.overflow_add-i
-overflow_add-i c = omega (arith, run_place c.loop-k.invariant.2, c.loop-k.invariant.0, c.requires.n_in_bounds)
-
-pub overflow_add-k : goal.overflow_add-k
-overflow_add-k c = omega (arith, c.many-m.type_inv)
+overflow_add-i c = omega (arith, run_place c.loop-k.invariant.1, c.loop-k.invariant.0, c.requires.n_in_bounds)
 
 pub loop-k-preserved : goal.loop-k-preserved
-loop-k-preserved c = (c.loop-k.invariant.0, omega arith, run_more c.loop-k.invariant.2 c.triangle_of-t.ensures c.put.ensures)
+loop-k-preserved c = (c.loop-k.invariant.0, run_more c.loop-k.invariant.1 c.triangle_of-t.ensures c.put.ensures)
 
 pub shape_of-area : goal.shape_of-area
-shape_of-area c = stored_long c.loop-k.invariant.2.stored
+shape_of-area c = stored_long c.loop-k.invariant.1.stored
 
 pub returns : goal.returns
 unfolding traced_triangles traced_triangle
-returns c = (omega (arith, run_place c.loop-k.invariant.2), run_all c.loop-k.invariant.2 _ (omega arith))
+returns c = (omega (arith, run_place c.loop-k.invariant.1), run_all c.loop-k.invariant.1 _ (omega arith))
