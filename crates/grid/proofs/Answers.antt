@@ -18,8 +18,9 @@ use Rattle.answer.proofs.Rows.{row_clear, row_found, row_passes, row_refuses, ro
 use Rattle.grid.specs.Grid.{Grid, built, cell_count, crossings}
 use Rattle.slots.specs.Limits.{most_cells}
 use Rattle.grid.specs.Rows.{bad_length, bad_lists, grid_answer, rows}
-use Rattle.grid.specs.work.Work.{Neighbours, WhereAccepted, Worked, answer_from, answer_with, listed_at}
+use Rattle.grid.specs.work.Work.{Early, Neighbours, WhereAccepted, Worked, answer_from, answer_with, listed_at}
 use Rattle.counting.specs.work.Tables.{Table}
+use Rattle.answer.specs.Refusal.{refusal_numbers}
 use Rattle.answer.specs.declared.Refusal.{Refusal}
 use Rattle.grid.proofs.Starts.{built_is, lists_fine}
 
@@ -98,6 +99,14 @@ verdict G wrong e = go wrong e (bad_length G.cells) refl ∙ ap (λ b. answer_wi
 pub where-accepted : {T : Type 0} (r : Result ℕ Refusal) → T → WhereAccepted r T
 where-accepted (Ok n) t = t
 where-accepted (Err refusal) t = tt
+
+-- what `early_rows` leaves, by its answer
+module _ (G : Grid) (near : List ℕ) (r : Result Unit Refusal) where
+  pub early_clear : (t : Unit {0}) → r ≡ Ok t → Early G near r → (answer_from 6 G ≡ answer_from 4 G) × Neighbours G.cells near
+  early_clear t e h = rw e at h
+
+  pub early_refused : (refusal : Refusal) → r ≡ Err refusal → Early G near r → refusal_numbers refusal ≡ answer_from 4 G
+  early_refused refusal e h = rw e at h
 
 pub worked : (G : Grid) (near sides : List ℕ) (r : Result ℕ Refusal) → Neighbours G.cells near
     → WhereAccepted r (Table (listed_at G) (6 * cell_count G.cells) sides) → WhereAccepted r (Worked G near sides)

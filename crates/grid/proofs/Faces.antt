@@ -9,10 +9,10 @@ use lib.Dec.{eqb, ltb}
 use lib.ListN.{get_or, length}
 use borrow.Author.Tests.{eq-eqb, eqb-true, ne_eqb}
 use Rattle.counting.specs.Search.{count, first, some}
-use Rattle.counting.proofs.Search.{AtMostOne, count_blocks, count_ext, count_none, count_plus, first_blocks, first_ext, first_le, some_ext}
+use Rattle.counting.proofs.Search.{AtMostOne, count_blocks, count_ext, count_none, count_plus, first_blocks, first_ext, some_ext}
 use Rattle.grid.specs.Grid.{cell_count, has_face, same_face}
 use Rattle.grid.specs.Rows.{crowded}
-use Rattle.grid.specs.work.Work.{Across, Mates, Neighbours, RisingCells, Pairing, third_at}
+use Rattle.grid.specs.work.Work.{Across, Mates, Neighbours, RisingCells, third_at}
 use Rattle.counting.specs.work.Tables.{same_key}
 use Rattle.grid.specs.work.Walks.{SameFrom, Slots}
 use Rattle.grid.proofs.Packed.{face_eqb, one_slot}
@@ -82,9 +82,4 @@ module _ (cells : List ℕ) (good : RisingCells cells) (keys : List ℕ) (w : Sl
           → get_or near (4 * c + s) 0 ≡ 4 * d + t + 1
       both d t c s hd ht hc hs ne e =
           M.all (4 * c + s) (4 * d + t) (omega arith) (omega arith) (λ q. ne (omega arith)) (eqb-true _ _ (sym (keys_face d t c s hd ht hc hs) ∙ e))
-
-  -- what `row_5` leaves
-  pub paired_near : (near : List ℕ) (r : ℕ) → 4 * cell_count cells ≤ length near → Pairing keys (4 * cell_count cells) r near → cell_count cells ≤ r / 4 → Neighbours cells near
-  paired_near near r room p h =
-      let e : r ≡ 4 * cell_count cells = omega (arith, p.is, first_le (third_at keys) (4 * cell_count cells)) in
-      mates_near near room (rw e at p.mates)
+      -- what `row_5` leaves

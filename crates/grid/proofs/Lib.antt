@@ -12,6 +12,7 @@ pub mod Sides
 pub mod Marks
 pub mod Ring
 pub mod Working
+pub mod Blocks
 pub mod Again
 pub mod Crossings
 pub mod Starts

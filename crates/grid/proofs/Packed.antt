@@ -1,4 +1,5 @@
 -- Keys: equal exactly where the nodes are.
+use Rattle.std.specs.Prelude.{None}
 use Prim.Native.Nat.{ℕ, ◌%◌, ◌*◌, ◌+◌, ◌/◌, ◌<◌, ◌≤◌}
 use mathlib.Core.Path.{◌∙◌, ◌≡◌, refl, sym}
 use mathlib.Core.Logic.{⊎_elim}
@@ -11,10 +12,10 @@ use lib.Dec.{eqb, leb, ltb}
 use lib.ListN.{get_or, length}
 use borrow.Author.Tests.{eq-eqb, eqb-false, eqb-true, le-leb, le-ltb, leb-false, lt-leb, ltb-false, ne_eqb}
 use Rattle.counting.specs.Pick.{pick}
-use Rattle.counting.specs.Search.{every, first, last, some}
+use Rattle.counting.specs.Search.{every, found, last, some}
 use Rattle.counting.proofs.Below.{rising, rising_once}
 use Rattle.counting.proofs.Bools.{holds_or, or_none, or_right}
-use Rattle.counting.proofs.Search.{every_is, first_none, is_every, none_some, some_ext, some_found, some_last, some_none}
+use Rattle.counting.proofs.Search.{every_is, first_none, found_none, is_every, none_some, some_ext, some_found, some_last, some_none}
 use Rattle.slots.specs.Slots.{position}
 use Rattle.slots.proofs.Slots.{corner_lt, same_slot}
 use Rattle.grid.specs.claims.Accepted.{SameFace}
@@ -72,12 +73,12 @@ module _ (cells : List ℕ) (c : ℕ) where
       )
 
 -- what rows 1 and 3 leave
-pub ordered_cells : (cells : List ℕ) → ((i : ℕ) → get_or cells i 0 < 65536) → cell_count cells ≤ most_cells → cell_count cells ≤ first (bad_cell cells) (cell_count cells)
+pub ordered_cells : (cells : List ℕ) → ((i : ℕ) → get_or cells i 0 < 65536) → cell_count cells ≤ most_cells → None ≡ found (bad_cell cells) (cell_count cells)
     → RisingCells cells
 ordered_cells cells small few none = record { small = small; few = few; nodes = λ c i h l. (fine c h).0 i l; rising = λ c i h l. (fine c h).1 i l }
   where
     fine : (c : ℕ) → c < cell_count cells → ((i : ℕ) → i < 4 → node cells c i ≤ highest_node) × ((i : ℕ) → i < 3 → node cells c i < node cells c (i + 1))
-    fine c h = cell_fine cells c (first_none (bad_cell cells) (cell_count cells) none c h)
+    fine c h = cell_fine cells c (first_none (bad_cell cells) (cell_count cells) (omega (arith, found_none _ _ none)) c h)
 
 -- the nodes of a cell that rise step by step
 pub nodes_rise : (cells : List ℕ) (c : ℕ) → ((i : ℕ) → i < 3 → node cells c i < node cells c (i + 1)) → (a b : ℕ) → a < b → b < 4 → node cells c a < node cells c b

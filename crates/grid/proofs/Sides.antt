@@ -1,4 +1,5 @@
 -- The edges of the list and of the cells by their keys: rows 6, 7 and 8.
+use Rattle.std.specs.Prelude.{Some, None}
 use Prim.Native.Nat.{ℕ, zero, suc, min, ◌%◌, ◌*◌, ◌+◌, ◌-◌, ◌/◌, ◌<◌, ◌≤◌}
 use mathlib.Core.Path.{◌∙◌, ◌≡◌, ap, refl, sym}
 use mathlib.Core.Logic.{⊎_elim}
@@ -10,9 +11,9 @@ use lib.Dec.{eqb, leb, ltb}
 use lib.ListN.{get_or, length}
 use borrow.Author.Tests.{eq-eqb, eqb-false, eqb-true, le-leb, le-ltb, lt-leb, lt-ltb, ltb-false, ltb-true, ne_eqb, not-false}
 use Rattle.counting.specs.Pick.{pick}
-use Rattle.counting.specs.Search.{first, last, some}
+use Rattle.counting.specs.Search.{first, found, last, some}
 use Rattle.counting.proofs.Bools.{bool_same, holds_or, not_clash}
-use Rattle.counting.proofs.Search.{first_at, first_below, first_blocks, first_ext, first_is, first_le, first_none, last_above, last_at, last_is, last_le, none_first, some_blocks, some_ext, some_first, some_found, some_last, some_none}
+use Rattle.counting.proofs.Search.{first_at, first_below, first_blocks, first_ext, first_found, first_is, first_le, first_none, last_above, last_at, last_is, last_le, none_first, none_found, some_blocks, some_ext, some_first, some_found, some_last, some_none}
 use Rattle.grid.specs.Grid.{Grid, cell_count, has_edge, high, is_edge, low}
 use Rattle.grid.specs.Rows.{is_after, unlisted, unused}
 use Rattle.grid.specs.work.Runs.{SidesPlaced}
@@ -202,13 +203,30 @@ module _ (G : Grid) (one : OneEach G) where
         ])
   ]
 
-pub row_8_told : {G : Grid} {sides top : List ℕ} → Usable G sides top → (r M : ℕ) → M ≡ min (length G.counts) (6 * cell_count G.cells)
-    → r ≡ first (λ e. eqb (get_or top (e + 1) 0) 0) M → r ≡ first (unused G) (length G.counts)
-row_8_told {G} {sides} {top} U r M em er =
-    er ∙ first_ext (λ e. eqb (get_or top (e + 1) 0) 0) (unused G) M
-    (λ e h. (let b : e < length G.counts = omega arith in let d : e < 6 * cell_count G.cells = omega arith in
-    ap (λ (x : ℕ). eqb x 0) (U.tops (e + 1) (omega arith)) ∙ sym (unused_top G U.one sides U.placed e b d)))
-    ∙ ap (first (unused G)) em ∙ unused_first G U.one
+-- what `row_8` answers: where the first M edges are in some cell, M being the lesser of the number of edges and that of the cells' edges, none but edge M
+-- can be in none
+module _ {G : Grid} {sides top : List ℕ} (U : Usable G sides top) (M : ℕ) (em : M ≡ min (length G.counts) (6 * cell_count G.cells)) where
+  row_8_told : first (λ e. eqb (get_or top (e + 1) 0) 0) M ≡ first (unused G) (length G.counts)
+  row_8_told =
+      first_ext (λ e. eqb (get_or top (e + 1) 0) 0) (unused G) M
+      (λ e h. (let b : e < length G.counts = omega arith in let d : e < 6 * cell_count G.cells = omega arith in
+      ap (λ (x : ℕ). eqb x 0) (U.tops (e + 1) (omega arith)) ∙ sym (unused_top G U.one sides U.placed e b d)))
+      ∙ ap (first (unused G)) em ∙ unused_first G U.one
+
+  pub row_8_hit : (e : ℕ) → e < M → get_or top (e + 1) 0 ≡ 0 → ((i : ℕ) → i < e → eqb (get_or top (i + 1) 0) 0 ≡ false) → Some e ≡ found (unused G) (length G.counts)
+  row_8_hit e h z below =
+      let q = sym (first_at (λ e. eqb (get_or top (e + 1) 0) 0) M e h (eq-eqb _ _ z) below) ∙ row_8_told in
+      ap Some q ∙ first_found _ _ (omega arith)
+
+  module _ (below : (i : ℕ) → i < M → eqb (get_or top (i + 1) 0) 0 ≡ false) where
+    all_used : M ≡ first (unused G) (length G.counts)
+    all_used = sym (none_first (λ e. eqb (get_or top (e + 1) 0) 0) M below) ∙ row_8_told
+
+    pub row_8_last : M < length G.counts → Some M ≡ found (unused G) (length G.counts)
+    row_8_last h = ap Some all_used ∙ first_found _ _ (omega (arith, all_used))
+
+    pub row_8_none : length G.counts ≤ M → None ≡ found (unused G) (length G.counts)
+    row_8_none h = none_found _ _ (omega (arith, all_used))
 
 -- what `row_7` answers
 pub blank_first : (sides : List ℕ) (n : ℕ) → first (λ j. eqb (get_or sides j 0) 0) (6 * n) / 6 ≡ first (blank_in sides) n

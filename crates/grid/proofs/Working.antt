@@ -1,15 +1,16 @@
 -- What each phase of the check leaves to the next; and new tables.
+use Rattle.std.specs.Prelude.{None}
 use Prim.Native.Nat.{ℕ, ◌*◌, ◌+◌, ◌/◌, ◌%◌, ◌<◌, ◌≤◌}
-use mathlib.Core.Path.{◌≡◌}
+use mathlib.Core.Path.{◌≡◌, sym}
 use mathlib.Core.Logic.{⊎_elim}
 use mathlib.Core.List.{List}
 use native.Mathlib.Omega.{arith}
 use lib.Dec.{eqb}
 use lib.ListN.{get_or, length, length-replicate, replicate}
 use borrow.Author.Tests.{eqb-false}
-use Rattle.counting.specs.Search.{first}
+use Rattle.counting.specs.Search.{found}
 use Rattle.counting.proofs.Tables.{zeros}
-use Rattle.counting.proofs.Search.{first_none, some_none}
+use Rattle.counting.proofs.Search.{first_none, found_none, some_none}
 use Rattle.grid.specs.Grid.{Before, Grid, cell_count, high, low}
 use Rattle.slots.specs.Limits.{highest_node}
 use Rattle.grid.specs.Rows.{bad_edge, unlisted, unused}
@@ -17,6 +18,7 @@ use Rattle.grid.specs.work.Runs.{Blanked, SidesPlaceable, SidesPlaced, Tallied, 
 use Rattle.grid.specs.work.Walks.{ChainTables, Fresh}
 use Rattle.grid.specs.work.Work.{Blank, CellTables, EdgeTables, Edging, Linkable, OneEach, Siding, Usable, Using, blank_in, listed_at}
 use Rattle.counting.specs.work.Tables.{Table}
+use Rattle.grid.proofs.Blocks.{found_same}
 use Rattle.grid.proofs.Sides.{listed_table, placed_below, unlisted_blank}
 use Rattle.grid.proofs.Sorted.{same-edge, sorted_edges}
 
@@ -65,8 +67,8 @@ module _ (n N : ℕ) (h : n ≤ N) where
 
 -- rows 6 and 7
 pub edging_siding : {G : Grid} {near ranks h0 x0 h1 x1 h2 x2 tab top degree marks sides : List ℕ} → Edging G near ranks h0 x0 h1 x1 h2 x2 tab top degree marks sides
-    → length G.counts ≤ first (bad_edge G.edges) (length G.counts) → Siding G near ranks h0 x0 h1 x1 h2 x2 tab top degree marks sides
-edging_siding {G} E h = record { edging = E; fine = first_none (bad_edge G.edges) (length G.counts) h }
+    → None ≡ found (bad_edge G.edges) (length G.counts) → Siding G near ranks h0 x0 h1 x1 h2 x2 tab top degree marks sides
+edging_siding {G} E h = record { edging = E; fine = first_none (bad_edge G.edges) (length G.counts) (omega (arith, found_none _ _ h)) }
 
 module _ {G : Grid} {near ranks h0 x0 h1 x1 h2 x2 tab top degree marks sides : List ℕ} (S : Siding G near ranks h0 x0 h1 x1 h2 x2 tab top degree marks sides) where
   rising_edges : (d e : ℕ) → d < e → e < length G.counts → Before (low G.edges d) (high G.edges d) (low G.edges e) (high G.edges e)
@@ -90,8 +92,8 @@ module _ {G : Grid} {near ranks h0 x0 h1 x1 h2 x2 tab top degree marks sides : L
   }
 
   module _ {sides' : List ℕ} (w : SidesPlaced G.cells G.edges (length G.counts) sides') where
-    pub siding_blank : first (unlisted G) (cell_count G.cells) ≡ first (blank_in sides') (cell_count G.cells)
-    siding_blank = unlisted_blank G one_each sides' w
+    pub siding_blank : found (blank_in sides') (cell_count G.cells) ≡ found (unlisted G) (cell_count G.cells)
+    siding_blank = found_same _ _ _ (sym (unlisted_blank G one_each sides' w))
 
     pub siding_talliable : length sides' ≡ length sides → Talliable sides' (6 * cell_count G.cells) top degree
     siding_talliable el = record {
@@ -103,7 +105,7 @@ module _ {G : Grid} {near ranks h0 x0 h1 x1 h2 x2 tab top degree marks sides : L
       degree_blank = S.edging.tables.degree_new.blank;
     }
 
-    pub siding_using : {top' degree' : List ℕ} → length sides' ≡ length sides → cell_count G.cells ≤ first (blank_in sides') (cell_count G.cells)
+    pub siding_using : {top' degree' : List ℕ} → length sides' ≡ length sides → None ≡ found (blank_in sides') (cell_count G.cells)
         → Tallied sides' (length top) (6 * cell_count G.cells) top' degree' → Using G near sides' top' degree' marks
     unfolding blank_in
     siding_using el none T = record {
@@ -113,7 +115,7 @@ module _ {G : Grid} {near ranks h0 x0 h1 x1 h2 x2 tab top degree marks sides : L
       placed = w;
       full = λ j h.
           let q : 6 * (j / 6) + j % 6 ≡ j = omega arith in
-          let b = some_none (λ k. eqb (get_or sides' (6 * (j / 6) + k) 0) 0) 6 (first_none (blank_in sides') (cell_count G.cells) none (j / 6) (omega arith)) (j % 6) (omega arith) in
+          let b = some_none (λ k. eqb (get_or sides' (6 * (j / 6) + k) 0) 0) 6 (first_none (blank_in sides') (cell_count G.cells) (omega (arith, found_none _ _ none)) (j / 6) (omega arith)) (j % 6) (omega arith) in
           let z = eqb-false (get_or sides' j 0) 0 (rw q at b) in
           omega arith;
       one = one_each;
@@ -125,8 +127,8 @@ module _ {G : Grid} {near ranks h0 x0 h1 x1 h2 x2 tab top degree marks sides : L
 
 -- rows 8 and 9
 module _ {G : Grid} {near sides top degree marks : List ℕ} (U : Using G near sides top degree marks) where
-  pub using_table : {p : ℕ} → p ≤ 6 * cell_count G.cells → length G.counts ≤ p → Table (listed_at G) (6 * cell_count G.cells) sides
-  using_table h l = listed_table G U.one sides U.placed U.room (omega arith)
+  pub using_table : length G.counts ≤ 6 * cell_count G.cells → Table (listed_at G) (6 * cell_count G.cells) sides
+  using_table h = listed_table G U.one sides U.placed U.room h
 
   pub using_usable : Usable G sides top
   using_usable = record {
@@ -137,18 +139,17 @@ module _ {G : Grid} {near sides top degree marks : List ℕ} (U : Using G near s
     tops = λ t h. U.tallied.tops t (omega (arith, U.within));
   }
 
-  pub using_linkable : {p : ℕ} → p ≡ first (unused G) (length G.counts) → p ≤ 6 * cell_count G.cells → length G.counts ≤ p
-      → Linkable G near sides top degree marks
-  using_linkable e h l = record {
+  pub using_linkable : None ≡ found (unused G) (length G.counts) → length G.counts ≤ 6 * cell_count G.cells → Linkable G near sides top degree marks
+  using_linkable none h = record {
     ordered = U.ordered;
     near_is = U.near_is;
-    sided = using_table h l;
+    sided = using_table h;
     full = U.full;
     one = U.one;
-    few = omega arith;
+    few = h;
     T = U.T;
     within = omega (arith, U.within);
     tallied = U.tallied;
-    used = first_none (unused G) (length G.counts) (omega arith);
+    used = first_none (unused G) (length G.counts) (omega (arith, found_none _ _ none));
     marks_new = U.marks_new;
   }

@@ -1,31 +1,20 @@
 // Rows 2, 6, 18, 7 and 8: the edges.
-ghost use Rattle.std.specs.Prelude.{◌≡◌, ◌+◌, ◌*◌, ◌/◌, ◌<◌, ◌≤◌, length, get_or};
-ghost use Rattle.counting.specs.Search.{first, found, some};
-ghost use Rattle.grid.specs.Grid.{built, cell_count};
+ghost use Rattle.std.specs.Prelude.{◌≡◌, ◌+◌, ◌*◌, ◌/◌, ◌<◌, ◌≤◌, length, None};
+ghost use Rattle.counting.specs.Search.{found, some};
+ghost use Rattle.grid.specs.Grid.{cell_count};
+ghost use Rattle.grid.specs.Lent.{rebuilt};
 ghost use Rattle.grid.specs.Rows.{bad_numbers, bad_start, bad_lists, bad_edge, bad_count, unused};
 ghost use Rattle.grid.specs.work.Runs.{Talliable, Tallied};
 ghost use Rattle.grid.specs.work.Shared.{edge_key};
 ghost use Rattle.grid.specs.work.Work.{Usable, blank_in};
 
-use crate::MOST_COUNT;
-use crate::numbering::wide;
-use counting::least;
+use crate::{Grid, MOST_COUNT};
 
 // Whether the lists do not have two ends and one start to a count.
 pub(crate) fn bad_numbers(edges: &[u16], counts: &[u16], starts: &[u32]) -> bool
     ensures { result ≡ bad_numbers edges.now counts.now starts.now }
 {
-    if edges.len() != 2 * counts.len() {
-        return true;
-    }
-    starts.len() != counts.len()
-}
-
-fn wide_start(x: u32) -> usize
-    ensures value { result ≡ x }
-    ensures upper_bound { result < 4294967296 }
-{
-    x as usize
+    edges.len() != 2 * counts.len() || starts.len() != counts.len()
 }
 
 // Whether some start is not the sum of the counts before its edge. The sum is one more count than a start at most, so it does not overflow.
@@ -33,33 +22,20 @@ fn bad_starts(counts: &[u16], starts: &[u32]) -> bool
     requires { length starts.now ≡ length counts.now }
     ensures { result ≡ some (bad_start counts.now starts.now) (length counts.now) }
 {
-    let mut s = 0;
-    let mut e = 0;
-    while e < counts.len() {
-        if wide_start(starts[e]) != s {
+    let mut sum = 0;
+    for e in 0..counts.len() {
+        if starts[e] as usize != sum {
             return true;
         }
-        s += wide(counts[e]);
-        e += 1;
+        sum += counts[e] as usize;
     }
     false
 }
 
-pub(crate) fn row_2(edges: &[u16], counts: &[u16], starts: &[u32]) -> bool
-    ensures { result ≡ bad_lists edges.now counts.now starts.now }
+pub(crate) fn row_2(grid: Grid) -> bool
+    ensures { result ≡ bad_lists grid.entry.edges.now grid.entry.counts.now grid.entry.starts.now }
 {
-    if bad_numbers(edges, counts, starts) {
-        return true;
-    }
-    bad_starts(counts, starts)
-}
-
-fn end_at(edges: &[u16], i: usize) -> usize
-    requires { i < length edges.now }
-    ensures value { result ≡ get_or edges.now i 0 }
-    ensures upper_bound { result < 65536 }
-{
-    wide(edges[i])
+    bad_numbers(grid.edges, grid.counts, grid.starts) || bad_starts(grid.counts, grid.starts)
 }
 
 // The ends of edge e as one number.
@@ -67,24 +43,14 @@ pub(crate) fn edge_key(edges: &[u16], e: usize) -> usize
     requires { 2 * e + 1 < length edges.now }
     ensures { result ≡ edge_key edges.now e }
 {
-    let u = end_at(edges, 2 * e);
-    let v = end_at(edges, 2 * e + 1);
-    u * 65536 + v
+    edges[2 * e] as usize * 65536 + edges[2 * e + 1] as usize
 }
 
 fn bad_edge(edges: &[u16], e: usize) -> bool
     requires { 2 * e + 1 < length edges.now }
     ensures { result ≡ bad_edge edges.now e }
 {
-    let u = end_at(edges, 2 * e);
-    let v = end_at(edges, 2 * e + 1);
-    if v <= u {
-        return true;
-    }
-    if e == 0 {
-        return false;
-    }
-    edge_key(edges, e) <= edge_key(edges, e - 1)
+    edges[2 * e + 1] <= edges[2 * e] || 0 < e && edge_key(edges, e) <= edge_key(edges, e - 1)
 }
 
 // The lowest edge whose ends do not rise, or that is not after its predecessor.
@@ -118,47 +84,41 @@ pub fn row_18(counts: &[u16]) -> Option<usize>
     None
 }
 
-// The lowest listed edge that no cell has; the number of edges where there is none. Of more edges than the cells have, one of the first ones is in no
-// cell, and there the search ends.
-pub(crate) fn row_8(
-    cells: &[u16],
-    edges: &[u16],
-    counts: &[u16],
-    sides: &[u16],
-    top: &[u16],
-) -> usize
-    requires { Usable (built cells.now edges.now counts.now) sides.now top.now }
-    ensures value { result ≡ first (unused (built cells.now edges.now counts.now)) (length counts.now) }
-    ensures upper_bound { result ≤ 6 * cell_count cells.now }
+// The lowest listed edge that no cell has. Of more edges than the cells have, one of the first ones is in no cell, and there the search ends.
+pub(crate) fn row_8(grid: Grid, sides: &[u16], top: &[u16]) -> Option<usize>
+    requires { Usable (rebuilt grid) sides.now top.now }
+    ensures value { result ≡ found (unused (rebuilt grid.entry)) (length grid.entry.counts.now) }
+    ensures few { result ≡ None → length grid.entry.counts.now ≤ 6 * cell_count grid.entry.cells.now }
 {
-    let m = least(counts.len(), 6 * (cells.len() / 4));
-    let mut e = 0;
-    while e < m {
+    let n = grid.counts.len();
+    let m = n.min(6 * (grid.cells.len() / 4));
+    for e in 0..m {
         if top[e + 1] == 0 {
-            return e;
+            return Some(e);
         }
-        e += 1;
     }
-    m
+    if m < n { Some(m) } else { None }
 }
 
-// The lowest cell with an entry of 0 among its six; the number of cells where there is none. Then top has for each number one more than the last of the
-// places that have it, and degree how many have it.
-pub(crate) fn row_7(cells: &[u16], sides: &[u16], top: &mut [u16], degree: &mut [u16]) -> usize
+// The lowest cell with an entry of 0 among its six. Where there is none, top has for each number one more than the last of the places that have it, and
+// degree how many have it.
+pub(crate) fn row_7(
+    cells: &[u16],
+    sides: &[u16],
+    top: &mut [u16],
+    degree: &mut [u16],
+) -> Option<usize>
     requires { Talliable sides.now (6 * cell_count cells.now) top.old degree.old }
-    ensures value { result ≡ first (blank_in sides.now) (cell_count cells.now) }
-    ensures tallied { cell_count cells.now ≤ result → Tallied sides.now (length top.old) (6 * cell_count cells.now) top.new degree.new }
+    ensures value { result ≡ found (blank_in sides.now) (cell_count cells.now) }
+    ensures tallied { result ≡ None → Tallied sides.now (length top.old) (6 * cell_count cells.now) top.new degree.new }
 {
-    let n = 6 * (cells.len() / 4);
-    let mut j = 0;
-    while j < n {
-        let t = wide(sides[j]);
+    for j in 0..6 * (cells.len() / 4) {
+        let t = sides[j] as usize;
         if t == 0 {
-            return j / 6;
+            return Some(j / 6);
         }
         degree[t] += 1;
-        j += 1;
-        top[t] = j as u16;
+        top[t] = (j + 1) as u16;
     }
-    n / 6
+    None
 }

@@ -2,12 +2,12 @@
 #![tactic(auto)]
 
 ghost use Rattle.std.specs.Prelude.{◌≡◌, false, ◌*◌, ◌<◌, ◌≤◌, length};
-ghost use Rattle.grid.specs.Grid.{grid_of, cell_count, built};
+ghost use Rattle.grid.specs.Grid.{grid_of, cell_count};
 ghost use Rattle.slots.specs.Limits.{most_cells};
 ghost use Rattle.grid.specs.Rows.{grid_answer, repeats};
-ghost use Rattle.counting.specs.Search.{first};
+ghost use Rattle.counting.specs.Search.{found};
 ghost use Rattle.grid.specs.Check.{check_numbers};
-ghost use Rattle.grid.specs.Lent.{lent};
+ghost use Rattle.grid.specs.Lent.{lent, rebuilt};
 ghost use Rattle.grid.specs.work.Shared.{capped};
 ghost use Rattle.grid.specs.work.Tables.{Laid};
 ghost use Rattle.grid.specs.Opening.{open_answer, open_starts};
@@ -50,81 +50,64 @@ pub struct Grid<'a> {
     pub starts: &'a [u32],
 }
 
-pub(crate) fn size(x: u16) -> u32
-    ensures value { result ≡ x }
-    ensures upper_bound { result < 65536 }
-{
-    x as u32
-}
-
 // The sum of the counts; 65,536 where it is more than 65,535.
 pub fn total(counts: &[u16]) -> u32
     ensures { result ≡ capped counts.now }
 {
-    let mut s: u32 = 0;
-    let mut e = 0;
-    while e < counts.len() {
-        s += size(counts[e]);
-        if MOST_CROSSINGS < s {
+    let mut sum: u32 = 0;
+    for e in 0..counts.len() {
+        sum += counts[e] as u32;
+        if MOST_CROSSINGS < sum {
             return TOO_MANY;
         }
-        e += 1;
     }
-    s
+    sum
 }
 
 // Rows 9 and 10.
 fn last_rows(
-    cells: &[u16],
-    edges: &[u16],
-    counts: &[u16],
+    grid: Grid,
     near: &[u16],
     sides: &[u16],
     top: &[u16],
     degree: &[u16],
     marks: &mut [u16],
 ) -> Result<u32, Refusal>
-    requires { Linkable (built cells.now edges.now counts.now) near.now sides.now top.now degree.now marks.old }
-    ensures { check_numbers result ≡ answer_from 9 (built cells.now edges.now counts.now) }
+    requires { Linkable (rebuilt grid) near.now sides.now top.now degree.now marks.old }
+    ensures { check_numbers result ≡ answer_from 9 (rebuilt grid.entry) }
 {
-    let p9 = links::row_9(cells, edges, counts, near, sides, top, degree, marks);
-    if p9 < counts.len() {
-        return Err(Row::EdgeUnlinked.at(p9));
+    if let Some(e) = links::row_9(grid, near, sides, top, degree, marks) {
+        return Err(Row::EdgeUnlinked.at(e));
     }
-    let s = total(counts);
-    if MOST_CROSSINGS < s {
+    let sum = total(grid.counts);
+    if MOST_CROSSINGS < sum {
         return Err(Row::Crossings.at(0));
     }
-    Ok(s)
+    Ok(sum)
 }
 
 // Row 8, and those after it, where every edge of a cell is listed.
 fn used_rows(
-    cells: &[u16],
-    edges: &[u16],
-    counts: &[u16],
+    grid: Grid,
     near: &[u16],
     sides: &[u16],
     top: &[u16],
     degree: &[u16],
     marks: &mut [u16],
 ) -> Result<u32, Refusal>
-    requires { Using (built cells.now edges.now counts.now) near.now sides.now top.now degree.now marks.old }
-    ensures result_value { check_numbers result ≡ answer_from 8 (built cells.now edges.now counts.now) }
-    ensures where_accepted { WhereAccepted result (Table (listed_at (built cells.now edges.now counts.now)) (6 * cell_count cells.now) sides.now) }
+    requires { Using (rebuilt grid) near.now sides.now top.now degree.now marks.old }
+    ensures result_value { check_numbers result ≡ answer_from 8 (rebuilt grid.entry) }
+    ensures where_accepted { WhereAccepted result (Table (listed_at (rebuilt grid.entry)) (6 * cell_count grid.entry.cells.now) sides.now) }
 {
-    let p8 = edges::row_8(cells, edges, counts, sides, top);
-    if p8 < counts.len() {
-        return Err(Row::EdgeStray.at(p8));
+    if let Some(e) = edges::row_8(grid, sides, top) {
+        return Err(Row::EdgeStray.at(e));
     }
-    last_rows(cells, edges, counts, near, sides, top, degree, marks)
+    last_rows(grid, near, sides, top, degree, marks)
 }
 
 // Rows 7 and 8, and those after them.
 fn side_rows(
-    cells: &[u16],
-    edges: &[u16],
-    counts: &[u16],
+    grid: Grid,
     near: &[u16],
     ranks: &[u16],
     h0: &[u16],
@@ -139,24 +122,23 @@ fn side_rows(
     marks: &mut [u16],
     sides: &mut [u16],
 ) -> Result<u32, Refusal>
-    requires { Siding (built cells.now edges.now counts.now) near.now ranks.now h0.now x0.now h1.now x1.now h2.now x2.now tab.old top.old degree.old marks.old sides.old }
-    ensures result_value { check_numbers result ≡ answer_from 7 (built cells.now edges.now counts.now) }
-    ensures where_accepted { WhereAccepted result (Table (listed_at (built cells.now edges.now counts.now)) (6 * cell_count cells.now) sides.new) }
+    requires { Siding (rebuilt grid) near.now ranks.now h0.now x0.now h1.now x1.now h2.now x2.now tab.old top.old degree.old marks.old sides.old }
+    ensures result_value { check_numbers result ≡ answer_from 7 (rebuilt grid.entry) }
+    ensures where_accepted { WhereAccepted result (Table (listed_at (rebuilt grid.entry)) (6 * cell_count grid.entry.cells.now) sides.new) }
 {
-    let m = counts.len();
-    runs::place_sides(cells, edges, m, ranks, h0, x0, h1, x1, h2, x2, tab, sides);
-    let p7 = edges::row_7(cells, sides, top, degree);
-    if p7 < cells.len() / 4 {
-        return Err(Row::EdgeMissing.at(p7));
+    let m = grid.counts.len();
+    runs::place_sides(
+        grid.cells, grid.edges, m, ranks, h0, x0, h1, x1, h2, x2, tab, sides,
+    );
+    if let Some(c) = edges::row_7(grid.cells, sides, top, degree) {
+        return Err(Row::EdgeMissing.at(c));
     }
-    used_rows(cells, edges, counts, near, sides, top, degree, marks)
+    used_rows(grid, near, sides, top, degree, marks)
 }
 
 // Rows 6 and 18, and those after them.
 fn edge_rows(
-    cells: &[u16],
-    edges: &[u16],
-    counts: &[u16],
+    grid: Grid,
     near: &[u16],
     ranks: &[u16],
     h0: &[u16],
@@ -171,18 +153,18 @@ fn edge_rows(
     marks: &mut [u16],
     sides: &mut [u16],
 ) -> Result<u32, Refusal>
-    requires { Edging (built cells.now edges.now counts.now) near.now ranks.now h0.now x0.now h1.now x1.now h2.now x2.now tab.old top.old degree.old marks.old sides.old }
-    ensures result_value { check_numbers result ≡ answer_from 6 (built cells.now edges.now counts.now) }
-    ensures where_accepted { WhereAccepted result (Table (listed_at (built cells.now edges.now counts.now)) (6 * cell_count cells.now) sides.new) }
+    requires { Edging (rebuilt grid) near.now ranks.now h0.now x0.now h1.now x1.now h2.now x2.now tab.old top.old degree.old marks.old sides.old }
+    ensures result_value { check_numbers result ≡ answer_from 6 (rebuilt grid.entry) }
+    ensures where_accepted { WhereAccepted result (Table (listed_at (rebuilt grid.entry)) (6 * cell_count grid.entry.cells.now) sides.new) }
 {
-    if let Some(e) = edges::row_6(edges, counts) {
+    if let Some(e) = edges::row_6(grid.edges, grid.counts) {
         return Err(Row::EdgeOrder.at(e));
     }
-    if let Some(e) = edges::row_18(counts) {
+    if let Some(e) = edges::row_18(grid.counts) {
         return Err(Row::Count.at(e));
     }
     side_rows(
-        cells, edges, counts, near, ranks, h0, x0, h1, x1, h2, x2, tab, top, degree, marks, sides,
+        grid, near, ranks, h0, x0, h1, x1, h2, x2, tab, top, degree, marks, sides,
     )
 }
 
@@ -195,20 +177,19 @@ fn crowded_row_4(
     faces: &[u16],
     at: &mut [u16],
     same: &mut [u16],
-) -> usize
+) -> Option<usize>
     requires low_chains { LowChains cells.now many h0.now x0.now }
     requires comparable { Comparable cells.now faces.now at.old same.old }
-    ensures { result ≡ first (repeats cells.now) (cell_count cells.now) }
+    ensures { result ≡ found (repeats cells.now) (cell_count cells.now) }
 {
     numbering::number_cells(cells, many, h0, x0, faces, at, same);
     numbering::clear(at);
     cells::first_same(cells, same, at)
 }
 
-// Rows 4 and 5: row 4's place; the number of cells more than row 5's, where row 4 has none; twice the number of cells where both have none, and then near
-// has the neighbours. Only where row 5 has a place, the cells are numbered for row 4.
+// Rows 4 and 5; where neither refuses, near has the neighbours. Only where row 5 has a place, the cells are numbered for row 4.
 fn early_rows(
-    cells: &[u16],
+    grid: Grid,
     many: usize,
     h0: &[u16],
     x0: &[u16],
@@ -216,35 +197,29 @@ fn early_rows(
     at: &mut [u16],
     same: &mut [u16],
     near: &mut [u16],
-) -> usize
-    requires rising_cells { RisingCells cells.now }
-    requires low_chains { LowChains cells.now many h0.now x0.now }
-    requires comparable { Comparable cells.now faces.now at.old same.old }
-    requires fresh { Fresh (4 * cell_count cells.now) near.old }
-    ensures { Early cells.now result near.new }
+) -> Result<(), Refusal>
+    requires rising_cells { RisingCells grid.cells.now }
+    requires low_chains { LowChains grid.cells.now many h0.now x0.now }
+    requires comparable { Comparable grid.cells.now faces.now at.old same.old }
+    requires fresh { Fresh (4 * cell_count grid.cells.now) near.old }
+    ensures { Early (rebuilt grid.entry) near.new result }
 {
-    let n = cells.len() / 4;
     numbering::clear(at);
-    let p5 = cells::row_5(cells, faces, at, near);
-    if n <= p5 {
-        let p4 = cells::row_4(cells, near);
-        if p4 < n {
-            return p4;
+    let Some(crowded) = cells::row_5(grid.cells, faces, at, near) else {
+        if let Some(c) = cells::row_4(grid.cells, near) {
+            return Err(Row::CellRepeated.at(c));
         }
-        return 2 * n;
+        return Ok(());
+    };
+    if let Some(c) = crowded_row_4(grid.cells, many, h0, x0, faces, at, same) {
+        return Err(Row::CellRepeated.at(c));
     }
-    let q4 = crowded_row_4(cells, many, h0, x0, faces, at, same);
-    if q4 < n {
-        return q4;
-    }
-    n + p5
+    Err(Row::FaceCrowded.at(crowded))
 }
 
 // Rows 4 and 5, and those after them. The tables are new and have room for the cells.
 fn table_rows(
-    cells: &[u16],
-    edges: &[u16],
-    counts: &[u16],
+    grid: Grid,
     near: &mut [u16],
     sides: &mut [u16],
     labels: &mut [u16],
@@ -263,41 +238,28 @@ fn table_rows(
     degree: &mut [u16],
     marks: &mut [u16],
 ) -> Result<u32, Refusal>
-    requires numbering { Numbering (built cells.now edges.now counts.now) near.old sides.old }
-    requires cell_tables { CellTables (cell_count cells.now) labels.old ranks.old at.old faces.old same.old }
-    requires chain_tables { ChainTables (cell_count cells.now) h0.old x0.old h1.old x1.old h2.old x2.old }
-    requires edge_tables { EdgeTables (cell_count cells.now) tab.old top.old degree.old marks.old }
-    ensures result_value { check_numbers result ≡ answer_from 4 (built cells.now edges.now counts.now) }
-    ensures where_accepted { WhereAccepted result (Worked (built cells.now edges.now counts.now) near.new sides.new) }
+    requires numbering { Numbering (rebuilt grid) near.old sides.old }
+    requires cell_tables { CellTables (cell_count grid.cells.now) labels.old ranks.old at.old faces.old same.old }
+    requires chain_tables { ChainTables (cell_count grid.cells.now) h0.old x0.old h1.old x1.old h2.old x2.old }
+    requires edge_tables { EdgeTables (cell_count grid.cells.now) tab.old top.old degree.old marks.old }
+    ensures result_value { check_numbers result ≡ answer_from 4 (rebuilt grid.entry) }
+    ensures where_accepted { WhereAccepted result (Worked (rebuilt grid.entry) near.new sides.new) }
 {
-    let n = cells.len() / 4;
     let many = numbering::number_faces(
-        cells, labels, ranks, h0, x0, h1, x1, h2, x2, at, faces, same,
+        grid.cells, labels, ranks, h0, x0, h1, x1, h2, x2, at, faces, same,
     );
-    let p = early_rows(cells, many, h0, x0, faces, at, same, near);
-    if p < n {
-        return Err(Row::CellRepeated.at(p));
-    }
-    if p < 2 * n {
-        return Err(Row::FaceCrowded.at(p - n));
-    }
+    early_rows(grid, many, h0, x0, faces, at, same, near)?;
     edge_rows(
-        cells, edges, counts, near, ranks, h0, x0, h1, x1, h2, x2, tab, top, degree, marks, sides,
+        grid, near, ranks, h0, x0, h1, x1, h2, x2, tab, top, degree, marks, sides,
     )
 }
 
 // The same with tables for 64 cells.
-fn few_rows(
-    cells: &[u16],
-    edges: &[u16],
-    counts: &[u16],
-    near: &mut [u16],
-    sides: &mut [u16],
-) -> Result<u32, Refusal>
-    requires cells_bound { cell_count cells.now ≤ 64 }
-    requires numbering { Numbering (built cells.now edges.now counts.now) near.old sides.old }
-    ensures result_value { check_numbers result ≡ answer_from 4 (built cells.now edges.now counts.now) }
-    ensures where_accepted { WhereAccepted result (Worked (built cells.now edges.now counts.now) near.new sides.new) }
+fn few_rows(grid: Grid, near: &mut [u16], sides: &mut [u16]) -> Result<u32, Refusal>
+    requires cells_bound { cell_count grid.cells.now ≤ 64 }
+    requires numbering { Numbering (rebuilt grid) near.old sides.old }
+    ensures result_value { check_numbers result ≡ answer_from 4 (rebuilt grid.entry) }
+    ensures where_accepted { WhereAccepted result (Worked (rebuilt grid.entry) near.new sides.new) }
 {
     let mut labels = [0u16; FEW_SLOTS];
     let mut ranks = [0u16; NODES];
@@ -315,9 +277,7 @@ fn few_rows(
     let mut degree = [0u16; FEW_EDGES + 2];
     let mut marks = [0u16; FEW_CELLS];
     table_rows(
-        cells,
-        edges,
-        counts,
+        grid,
         near,
         sides,
         &mut labels,
@@ -339,16 +299,10 @@ fn few_rows(
 }
 
 // The same with tables for 2,048 cells.
-fn many_rows(
-    cells: &[u16],
-    edges: &[u16],
-    counts: &[u16],
-    near: &mut [u16],
-    sides: &mut [u16],
-) -> Result<u32, Refusal>
-    requires { Numbering (built cells.now edges.now counts.now) near.old sides.old }
-    ensures result_value { check_numbers result ≡ answer_from 4 (built cells.now edges.now counts.now) }
-    ensures where_accepted { WhereAccepted result (Worked (built cells.now edges.now counts.now) near.new sides.new) }
+fn many_rows(grid: Grid, near: &mut [u16], sides: &mut [u16]) -> Result<u32, Refusal>
+    requires { Numbering (rebuilt grid) near.old sides.old }
+    ensures result_value { check_numbers result ≡ answer_from 4 (rebuilt grid.entry) }
+    ensures where_accepted { WhereAccepted result (Worked (rebuilt grid.entry) near.new sides.new) }
 {
     let mut labels = [0u16; MOST_SLOTS];
     let mut ranks = [0u16; NODES];
@@ -366,9 +320,7 @@ fn many_rows(
     let mut degree = [0u16; MOST_EDGES + 2];
     let mut marks = [0u16; MOST_CELLS];
     table_rows(
-        cells,
-        edges,
-        counts,
+        grid,
         near,
         sides,
         &mut labels,
@@ -390,72 +342,56 @@ fn many_rows(
 }
 
 // Row 3, and those after it.
-fn cell_rows(
-    cells: &[u16],
-    edges: &[u16],
-    counts: &[u16],
-    near: &mut [u16],
-    sides: &mut [u16],
-) -> Result<u32, Refusal>
-    requires { Celling (built cells.now edges.now counts.now) near.old sides.old }
-    ensures result_value { check_numbers result ≡ answer_from 3 (built cells.now edges.now counts.now) }
-    ensures where_accepted { WhereAccepted result (Worked (built cells.now edges.now counts.now) near.new sides.new) }
+fn cell_rows(grid: Grid, near: &mut [u16], sides: &mut [u16]) -> Result<u32, Refusal>
+    requires { Celling (rebuilt grid) near.old sides.old }
+    ensures result_value { check_numbers result ≡ answer_from 3 (rebuilt grid.entry) }
+    ensures where_accepted { WhereAccepted result (Worked (rebuilt grid.entry) near.new sides.new) }
 {
-    let n = cells.len() / 4;
-    let p3 = cells::row_3(cells);
-    if p3 < n {
-        return Err(Row::CellNodes.at(p3));
+    if let Some(c) = cells::row_3(grid.cells) {
+        return Err(Row::CellNodes.at(c));
     }
-    if n <= FEW_CELLS {
-        return few_rows(cells, edges, counts, near, sides);
+    if grid.cells.len() / 4 <= FEW_CELLS {
+        return few_rows(grid, near, sides);
     }
-    many_rows(cells, edges, counts, near, sides)
+    many_rows(grid, near, sides)
 }
 
 // All rows, where `wrong` is row 2's verdict. Where the grid is accepted, near has the neighbours and sides the edges of the cells.
-fn all_rows(
-    cells: &[u16],
-    edges: &[u16],
-    counts: &[u16],
-    wrong: bool,
-    near: &mut [u16],
-    sides: &mut [u16],
-) -> Result<u32, Refusal>
-    requires edges_len { wrong ≡ false → length edges.now ≡ 2 * length counts.now }
-    requires blank { cell_count cells.now ≤ most_cells → Blank (cell_count cells.now) near.old sides.old }
-    ensures result_value { check_numbers result ≡ answer_with wrong (built cells.now edges.now counts.now) }
-    ensures where_accepted { WhereAccepted result (Worked (built cells.now edges.now counts.now) near.new sides.new) }
+fn all_rows(grid: Grid, wrong: bool, near: &mut [u16], sides: &mut [u16]) -> Result<u32, Refusal>
+    requires edges_len { wrong ≡ false → length grid.edges.now ≡ 2 * length grid.counts.now }
+    requires blank { cell_count grid.cells.now ≤ most_cells → Blank (cell_count grid.cells.now) near.old sides.old }
+    ensures result_value { check_numbers result ≡ answer_with wrong (rebuilt grid.entry) }
+    ensures where_accepted { WhereAccepted result (Worked (rebuilt grid.entry) near.new sides.new) }
 {
-    if cells::row_1(cells) {
+    if cells::row_1(grid.cells) {
         return Err(Row::CellList.at(0));
     }
     if wrong {
         return Err(Row::EdgeList.at(0));
     }
-    cell_rows(cells, edges, counts, near, sides)
+    cell_rows(grid, near, sides)
 }
 
 // All rows, with tables of their own: few for few cells.
-fn judge(cells: &[u16], edges: &[u16], counts: &[u16], wrong: bool) -> Result<u32, Refusal>
-    requires { wrong ≡ false → length edges.now ≡ 2 * length counts.now }
-    ensures { check_numbers result ≡ answer_with wrong (built cells.now edges.now counts.now) }
+fn judge(grid: Grid, wrong: bool) -> Result<u32, Refusal>
+    requires { wrong ≡ false → length grid.edges.now ≡ 2 * length grid.counts.now }
+    ensures { check_numbers result ≡ answer_with wrong (rebuilt grid.entry) }
 {
-    if cells.len() / 4 <= FEW_CELLS {
+    if grid.cells.len() / 4 <= FEW_CELLS {
         let mut near = [0u16; FEW_SLOTS];
         let mut sides = [0u16; FEW_EDGES];
-        return all_rows(cells, edges, counts, wrong, &mut near, &mut sides);
+        return all_rows(grid, wrong, &mut near, &mut sides);
     }
     let mut near = [0u16; MOST_SLOTS];
     let mut sides = [0u16; MOST_EDGES];
-    all_rows(cells, edges, counts, wrong, &mut near, &mut sides)
+    all_rows(grid, wrong, &mut near, &mut sides)
 }
 
 // The grid check, in time linear in the cells and the listed edges. Keeps 233 KB on the stack, with what its functions keep.
 pub fn check(grid: Grid) -> Result<u32, Refusal>
     ensures { check_numbers result ≡ grid_answer (lent grid.entry) }
 {
-    let wrong = edges::row_2(grid.edges, grid.counts, grid.starts);
-    judge(grid.cells, grid.edges, grid.counts, wrong)
+    judge(grid, edges::row_2(grid))
 }
 
 // The grid check, and where it accepts, the tables of the grid: the name of face 4 c + s of the cells, and the place in the list of edge k of cell c
@@ -469,17 +405,10 @@ pub fn lay(
     ensures laid { Laid (lent grid.entry) names.old sides.old names.new sides.new }
 {
     let n = grid.cells.len() / 4;
-    let wrong = edges::row_2(grid.edges, grid.counts, grid.starts);
+    let wrong = edges::row_2(grid);
     let mut across = [0u16; MOST_SLOTS];
     let mut listed = [0u16; MOST_EDGES];
-    let crossings = all_rows(
-        grid.cells,
-        grid.edges,
-        grid.counts,
-        wrong,
-        &mut across,
-        &mut listed,
-    )?;
+    let crossings = all_rows(grid, wrong, &mut across, &mut listed)?;
     tables::write_names(4 * n, &across, names);
     tables::write_sides(6 * n, &listed, sides);
     Ok(crossings)
@@ -496,7 +425,15 @@ pub fn open(
     ensures starts_after { starts.new ≡ open_starts (grid_of cells.now edges.now counts.now starts.old) }
 {
     let wrong = edges::bad_numbers(edges, counts, starts);
-    let crossings = judge(cells, edges, counts, wrong)?;
+    let crossings = judge(
+        Grid {
+            cells,
+            edges,
+            counts,
+            starts,
+        },
+        wrong,
+    )?;
     tables::write_starts(counts, 0, 0, starts);
     Ok(crossings)
 }
@@ -518,7 +455,7 @@ fn change(
     if MOST_COUNT < count {
         return Err(Row::Count.at(edge));
     }
-    let m = n - size(counts[edge]) + size(count);
+    let m = n - counts[edge] as u32 + count as u32;
     if MOST_CROSSINGS < m {
         return Err(Row::Crossings.at(0));
     }

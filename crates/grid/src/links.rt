@@ -1,13 +1,13 @@
 // Row 9: the cells of each edge, linked through faces that contain it.
 ghost use Rattle.std.specs.Prelude.{◌≡◌, ◌≢◌, ◌-◌, ◌*◌, ◌/◌, ◌<◌, length};
-ghost use Rattle.counting.specs.Search.{first, some};
+ghost use Rattle.counting.specs.Search.{found, some};
 ghost use Rattle.slots.specs.claims.Slots.{rank_in, other_slot};
 ghost use Rattle.slots.specs.Slots.{second_slot};
-ghost use Rattle.grid.specs.Grid.{built};
+ghost use Rattle.grid.specs.Lent.{rebuilt};
 ghost use Rattle.grid.specs.Rows.{split};
 ghost use Rattle.grid.specs.work.Work.{OnSlot, Spreadable, Spreads, missing, Reached, Splitting, Linkable};
 
-use crate::numbering::wide;
+use crate::Grid;
 use slots::position;
 
 // The lower of the two slots that contain edge k.
@@ -15,13 +15,11 @@ fn lower_slot(k: usize) -> usize
     requires { k < 6 }
     ensures { result ≡ second_slot k }
 {
-    if k == 0 {
-        return 2;
+    match k {
+        0 => 2,
+        1 | 2 => 1,
+        _ => 0,
     }
-    if k < 3 {
-        return 1;
-    }
-    0
 }
 
 // The other slot that contains edge k. The positions of an edge's ends add up to k + 1 from the lowest node, else to k.
@@ -30,10 +28,7 @@ fn other_side(k: usize, s: usize) -> usize
     ensures value { result ≡ other_slot k s }
     ensures upper_bound { result < 4 }
 {
-    if k < 3 {
-        return 5 - k - s;
-    }
-    6 - k - s
+    if k < 3 { 5 - k - s } else { 6 - k - s }
 }
 
 // The rank in slot s of the node at position i.
@@ -44,10 +39,7 @@ fn rank_of(s: usize, i: usize) -> usize
     ensures value { result ≡ rank_in s i }
     ensures upper_bound { result < 3 }
 {
-    if i < s {
-        return i;
-    }
-    i - 1
+    if i < s { i } else { i - 1 }
 }
 
 // Marks the cells of an edge that are met across slot `start`, and across the other side of each cell met, until there is none or a marked one. Answers how
@@ -58,7 +50,8 @@ fn spread(near: &[u16], n: usize, mark: u16, start: usize, rank: usize, marks: &
 {
     let mut met = 0;
     let mut r = rank;
-    let mut p = wide(near[start]);
+    // Stays: a while, since the next place comes from the links and not from a range.
+    let mut p = near[start] as usize;
     while 0 < p {
         let x = p - 1;
         let c = x / 4;
@@ -70,7 +63,7 @@ fn spread(near: &[u16], n: usize, mark: u16, start: usize, rank: usize, marks: &
         met += 1;
         let s = position(t, r);
         r = rank_of(s, t);
-        p = wide(near[4 * c + s]);
+        p = near[4 * c + s] as usize;
     }
     met
 }
@@ -104,35 +97,29 @@ fn split_at(
     1 + a + b != degree
 }
 
-// The lowest edge whose cells are not all linked; the number of edges where there is none.
+// The lowest edge whose cells are not all linked.
 pub(crate) fn row_9(
-    cells: &[u16],
-    edges: &[u16],
-    counts: &[u16],
+    grid: Grid,
     near: &[u16],
     sides: &[u16],
     top: &[u16],
     degree: &[u16],
     marks: &mut [u16],
-) -> usize
-    requires { Linkable (built cells.now edges.now counts.now) near.now sides.now top.now degree.now marks.old }
-    ensures { result ≡ first (split (built cells.now edges.now counts.now)) (length counts.now) }
+) -> Option<usize>
+    requires { Linkable (rebuilt grid) near.now sides.now top.now degree.now marks.old }
+    ensures { result ≡ found (split (rebuilt grid.entry)) (length grid.entry.counts.now) }
 {
-    let n = cells.len() / 4;
-    let m = counts.len();
-    let mut e = 0;
-    while e < m {
+    let n = grid.cells.len() / 4;
+    for e in 0..grid.counts.len() {
         let key = e + 1;
-        let t = wide(top[key]);
-        let d = wide(degree[key]);
+        let t = top[key] as usize;
+        let d = degree[key] as usize;
         if d == 1 {
-            e += 1;
             continue;
         }
         if split_at(sides, near, n, key as u16, t, d, marks) {
-            return e;
+            return Some(e);
         }
-        e += 1;
     }
-    m
+    None
 }

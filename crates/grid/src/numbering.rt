@@ -5,12 +5,6 @@ ghost use Rattle.grid.specs.work.Walks.{Linked, Linkable, label_at, InSlots, Wal
 ghost use Rattle.grid.specs.work.Runs.{Blanked, NodeChains};
 ghost use Rattle.counting.specs.Stored.{filled};
 
-pub(crate) fn wide(x: u16) -> usize
-    ensures { result ≡ x }
-{
-    x as usize
-}
-
 // Gives item i the number of its key in this turn: the one that at has, where it is above base, else the next. Answers the last number given out.
 fn number(i: usize, keys: &[u16], base: usize, ids: usize, at: &mut [u16], out: &mut [u16]) -> usize
     requires { Numberable keys.now i ids at.old out.old }
@@ -18,9 +12,9 @@ fn number(i: usize, keys: &[u16], base: usize, ids: usize, at: &mut [u16], out: 
     ensures at_after { at.new ≡ at_after base ids (mark_of keys.now at.old i) at.old (get_or keys.now i 0) }
     ensures out_after { out.new ≡ set out.old i (number_of base ids (mark_of keys.now at.old i)) }
 {
-    let key = wide(keys[i]);
+    let key = keys[i] as usize;
     let q = at[key];
-    if base < wide(q) {
+    if base < q as usize {
         out[i] = q;
         return ids;
     }
@@ -47,10 +41,8 @@ fn numbers(
     ensures { Does (InSlots c from to) keys.now base ids at.old out.old result at.new out.new }
 {
     let mut m = ids;
-    let mut s = from;
-    while s < to {
+    for s in from..to {
         m = number(4 * c + s, keys, base, m, at, out);
-        s += 1;
     }
     m
 }
@@ -75,11 +67,12 @@ fn walk(
         return ids;
     }
     let mut m = ids;
-    let mut j = wide(head[r]);
+    // Stays: a while, since the next place comes from the links and not from a range.
+    let mut j = head[r] as usize;
     while 0 < j {
         let c = j - 1;
         m = numbers(c, from, to, keys, base, m, at, out);
-        j = wide(next[c]);
+        j = next[c] as usize;
     }
     m
 }
@@ -89,12 +82,10 @@ fn link(labels: &[u16], i: usize, n: usize, head: &mut [u16], next: &mut [u16])
     requires { Linkable labels.now i n head.old next.old }
     ensures { Linked (label_at labels.now i) (length head.old) n head.new next.new }
 {
-    let mut c = 0;
-    while c < n {
-        let h = wide(labels[4 * c + i]);
+    for c in 0..n {
+        let h = labels[4 * c + i] as usize;
         next[c] = head[h];
-        c += 1;
-        head[h] = c as u16;
+        head[h] = (c + 1) as u16;
     }
 }
 
@@ -117,11 +108,9 @@ fn pass(
     ensures { Passed heada.now nexta.now froma toa headb.now nextb.now fromb tob keys.now many at.old out.old result out.new }
 {
     let mut ids = 0;
-    let mut r = 0;
-    while r < many {
+    for r in 0..many {
         let d = walk(heada, nexta, r, froma, toa, keys, ids, ids, at, out);
         ids = walk(headb, nextb, r, fromb, tob, keys, ids, d, at, out);
-        r += 1;
     }
     ids
 }
@@ -132,10 +121,8 @@ fn label(cells: &[u16], n: usize, at: &mut [u16], out: &mut [u16]) -> usize
     ensures { Labels cells.now n result (length at.old) at.new out.new }
 {
     let mut m = 0;
-    let mut j = 0;
-    while j < n {
+    for j in 0..n {
         m = number(j, cells, 0, m, at, out);
-        j += 1;
     }
     m
 }
@@ -146,14 +133,12 @@ fn thirds(labels: &[u16], n: usize, out: &mut [u16])
     requires n_in_bounds_2 { 4 * n ≤ length out.old }
     ensures { out.new ≡ filled (corner labels.now 2) (4 * n) out.old }
 {
-    let mut c = 0;
-    while c < n {
+    for c in 0..n {
         let last = labels[4 * c + 3];
         out[4 * c] = last;
         out[4 * c + 1] = last;
         out[4 * c + 2] = last;
         out[4 * c + 3] = labels[4 * c + 2];
-        c += 1;
     }
 }
 
@@ -204,11 +189,7 @@ fn number_pairs(
 pub(crate) fn clear(table: &mut [u16])
     ensures { Blanked table.new }
 {
-    let mut j = 0;
-    while j < table.len() {
-        table[j] = 0;
-        j += 1;
-    }
+    table.fill(0);
 }
 
 // Numbers the faces, by their lowest node and the pair of the others. The tables are new. `faces` has the third nodes first, and `same` the pairs.
@@ -292,7 +273,7 @@ pub(crate) fn earlier(key: usize, j: usize, seen: &mut [u16]) -> usize
     ensures value { result ≡ get_or seen.old key 0 }
     ensures seen_after { seen.new ≡ set seen.old key (j + 1) }
 {
-    let p = wide(seen[key]);
+    let p = seen[key];
     seen[key] = (j + 1) as u16;
-    p
+    p as usize
 }

@@ -5,8 +5,6 @@ ghost use Rattle.grid.specs.work.Runs.{Fillable, RunFilled, Clearable, Blanked, 
 
 use crate::HIGHEST_NODE;
 use crate::cells::node_at;
-use crate::numbering::wide;
-use counting::least;
 use slots::high_end;
 
 // Puts x at place v, where there is one.
@@ -14,10 +12,9 @@ fn put_at(v: usize, x: usize, tab: &mut [u16])
     requires { x < 65536 }
     ensures { tab.new ≡ set tab.old v x }
 {
-    if tab.len() <= v {
-        return;
+    if v < tab.len() {
+        tab[v] = x as u16;
     }
-    tab[v] = x as u16;
 }
 
 // Puts the run of edges with the lower end of edge a: at each higher end one more than the edge's place, but no more than cap + 1. Answers where the run
@@ -27,13 +24,11 @@ fn fill_run(edges: &[u16], m: usize, cap: usize, a: usize, tab: &mut [u16]) -> u
     ensures { RunFilled edges.now m cap a result tab.old tab.new }
 {
     let u = edges[2 * a];
-    let mut e = a;
-    while e < m {
+    for e in a..m {
         if edges[2 * e] != u {
             return e;
         }
-        put_at(wide(edges[2 * e + 1]), least(e, cap) + 1, tab);
-        e += 1;
+        put_at(edges[2 * e + 1] as usize, e.min(cap) + 1, tab);
     }
     m
 }
@@ -43,10 +38,8 @@ fn clear_run(edges: &[u16], a: usize, f: usize, tab: &mut [u16])
     requires { Clearable edges.now a f tab.old }
     ensures { Blanked tab.new }
 {
-    let mut e = a;
-    while e < f {
-        put_at(wide(edges[2 * e + 1]), 0, tab);
-        e += 1;
+    for e in a..f {
+        put_at(edges[2 * e + 1] as usize, 0, tab);
     }
 }
 
@@ -55,11 +48,9 @@ fn put_sides(cells: &[u16], c: usize, from: usize, to: usize, tab: &[u16], sides
     requires { SidesPuttable cells.now c from to tab.now sides.old }
     ensures { Lays (InCell c from to) cells.now tab.now sides.old sides.new }
 {
-    let mut k = from;
-    while k < to {
+    for k in from..to {
         let v = node_at(cells, c, high_end(k));
         sides[6 * c + k] = tab[v];
-        k += 1;
     }
 }
 
@@ -77,11 +68,12 @@ fn walk_sides(
     requires { SidesWalkable cells.now head.now next.now r from to tab.now sides.old }
     ensures { SidesWalked cells.now head.now next.now r from to tab.now sides.old sides.new }
 {
-    let mut j = wide(head[r]);
+    // Stays: a while, since the next place comes from the links and not from a range.
+    let mut j = head[r] as usize;
     while 0 < j {
         let c = j - 1;
         put_sides(cells, c, from, to, tab, sides);
-        j = wide(next[c]);
+        j = next[c] as usize;
     }
 }
 
@@ -102,7 +94,7 @@ fn turn_sides(
     requires { Turnable cells.now ranks.now h0.now x0.now h1.now x1.now h2.now x2.now u tab.now sides.old }
     ensures { Lays (FromNode cells.now u) cells.now tab.now sides.old sides.new }
 {
-    let r = wide(ranks[u]);
+    let r = ranks[u] as usize;
     walk_sides(cells, h0, x0, r, 0, 3, tab, sides);
     walk_sides(cells, h1, x1, r, 3, 5, tab, sides);
     walk_sides(cells, h2, x2, r, 5, 6, tab, sides);
@@ -128,9 +120,10 @@ pub(crate) fn place_sides(
     ensures { SidesPlaced cells.now edges.now m sides.new }
 {
     let cap = 6 * (cells.len() / 4);
+    // Stays: a while, since a turn takes a whole run of edges.
     let mut e = 0;
     while e < m {
-        let u = wide(edges[2 * e]);
+        let u = edges[2 * e] as usize;
         if HIGHEST_NODE < u {
             return;
         }

@@ -4,21 +4,12 @@ ghost use Rattle.counting.specs.Stored.{filled};
 ghost use Rattle.grid.specs.Grid.{start};
 ghost use Rattle.grid.specs.work.Work.{Copying, Lowering, Starting, lower_place};
 
-use crate::numbering::wide;
-use crate::size;
-
 // The lower of place j and the place that x is one more than; j where x is 0.
 fn lower(j: usize, x: usize) -> usize
     ensures value { result ≡ lower_place j x }
     ensures upper_bound { result ≤ j }
 {
-    if x == 0 {
-        return j;
-    }
-    if x - 1 < j {
-        return x - 1;
-    }
-    j
+    if x == 0 { j } else { j.min(x - 1) }
 }
 
 // Names: a face has the lower of its two places, or its only one.
@@ -26,10 +17,8 @@ pub(crate) fn write_names(n: usize, across: &[u16], names: &mut [u16])
     requires { Copying n across.now names.old }
     ensures { names.new ≡ filled (λ j. lower_place j (get_or across.now j 0)) n names.old }
 {
-    let mut j = 0;
-    while j < n {
-        names[j] = lower(j, wide(across[j])) as u16;
-        j += 1;
+    for j in 0..n {
+        names[j] = lower(j, across[j] as usize) as u16;
     }
 }
 
@@ -37,11 +26,8 @@ pub(crate) fn write_sides(n: usize, listed: &[u16], sides: &mut [u16])
     requires { Lowering n listed.now sides.old }
     ensures { sides.new ≡ filled (λ j. get_or listed.now j 0 - 1) n sides.old }
 {
-    let mut j = 0;
-    while j < n {
-        let x = listed[j];
-        sides[j] = x - 1;
-        j += 1;
+    for j in 0..n {
+        sides[j] = listed[j] - 1;
     }
 }
 
@@ -51,10 +37,8 @@ pub(crate) fn write_starts(counts: &[u16], from: usize, s: u32, starts: &mut [u3
     ensures { starts.new ≡ filled (start counts.now) (length counts.now) starts.old }
 {
     let mut sum = s;
-    let mut e = from;
-    while e < counts.len() {
+    for e in from..counts.len() {
         starts[e] = sum;
-        sum += size(counts[e]);
-        e += 1;
+        sum += counts[e] as u32;
     }
 }

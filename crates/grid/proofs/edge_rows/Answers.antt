@@ -1,7 +1,5 @@
 use mathlib.Core.Path.{◌∙◌, refl, sym}
-use native.Mathlib.Omega.{arith}
 use Rattle.answer.specs.work.Faults.{since}
-use Rattle.counting.proofs.Search.{found_none}
 use Rattle.grid.specs.Rows.{rows}
 use Rattle.grid.proofs.Answers.{answer_clear, answer_found}
 use Rattle.grid.proofs.Working.{edging_siding}
@@ -19,7 +17,7 @@ unfolding since rows
 returns-in-Some-row_18 c = record { result_value = rw c.at-in-Some-row_18.ensures (answer_found _ 18 7 refl _ (sym c.in-Some-row_18.is ∙ c.row_18.ensures) ∙ answer_clear _ 6 18 refl (sym c.in_default.is ∙ c.row_6.ensures)); where_accepted = tt }
 
 pub side_rows-requires : goal.side_rows-requires
-side_rows-requires c = edging_siding c.requires (omega (arith, found_none _ _ (sym c.in_default.is ∙ c.row_6.ensures)))
+side_rows-requires c = edging_siding c.requires (sym c.in_default.is ∙ c.row_6.ensures)
 
 pub returns : goal.returns
 unfolding since rows

@@ -2,10 +2,10 @@ use Rattle.grid.proofs.Working.{blank_tables}
 use Rattle.grid.proofs.judge.Goals as goal
 
 pub all_rows-requires : goal.all_rows-requires
-all_rows-requires c = record { edges_len = c.requires; blank = λ h. blank_tables _ 64 c.if-cells-le-FEW_CELLS.true }
+all_rows-requires c = record { edges_len = c.requires; blank = λ h. blank_tables _ 64 c.if-grid-le-FEW_CELLS.true }
 
-pub returns-then-cells-le-FEW_CELLS : goal.returns-then-cells-le-FEW_CELLS
-returns-then-cells-le-FEW_CELLS c = c.all_rows.ensures.result_value
+pub returns-then-grid-le-FEW_CELLS : goal.returns-then-grid-le-FEW_CELLS
+returns-then-grid-le-FEW_CELLS c = c.all_rows.ensures.result_value
 
 pub all_rows-requires-2 : goal.all_rows-requires-2
 all_rows-requires-2 c = record { edges_len = c.requires; blank = λ h. blank_tables _ 2048 h }

@@ -7,22 +7,22 @@ use Rattle.grid.proofs.Crossings.{capped_is, capped_over, start_mono, start_next
 use Rattle.grid.proofs.total.Goals as goal
 
 pub loop-e-init : goal.loop-e-init
-loop-e-init c = (omega arith, omega arith, sym (start_zero _))
+loop-e-init c = (omega arith, sym (start_zero _))
 
-pub returns-then-s-gt-MOST_CROSSINGS : goal.returns-then-s-gt-MOST_CROSSINGS
-returns-then-s-gt-MOST_CROSSINGS c = let c-loop = c.loop-e in
+pub returns-then-sum-gt-MOST_CROSSINGS : goal.returns-then-sum-gt-MOST_CROSSINGS
+returns-then-sum-gt-MOST_CROSSINGS c = let c-loop = c.loop-e in
     let l = c.args.counts.now in
     let i = c-loop.e in
-    capped_over l (omega (arith, start_next l i, start_mono l (i + 1) (length l) (omega arith), c.size-s.ensures.value, c.if-s-gt-MOST_CROSSINGS.true, c-loop.invariant.2))
+    capped_over l (omega (arith, start_next l i, start_mono l (i + 1) (length l) (omega arith), c.if-sum-gt-MOST_CROSSINGS.true, c-loop.invariant.1))
 
 pub loop-e-preserved : goal.loop-e-preserved
 loop-e-preserved c = let c-loop = c.loop-e in
     let l = c.args.counts.now in
     let i = c-loop.e in
-    (omega arith, omega (arith, c.if-s-gt-MOST_CROSSINGS.false), omega (arith, start_next l i, c.size-s.ensures.value, c-loop.invariant.2))
+    (omega (arith, c.if-sum-gt-MOST_CROSSINGS.false), omega (arith, start_next l i, c-loop.invariant.1))
 
 pub returns : goal.returns
 returns c = let l = c.args.counts.now in
     let e : c.loop-e.e ≡ length l = omega arith in
-    let f : c.loop-e.s ≡ crossings l = c.loop-e.invariant.2 ∙ ap (start l) e in
-    f ∙ capped_is l (omega (arith, c.loop-e.invariant.1))
+    let f : c.loop-e.sum ≡ crossings l = c.loop-e.invariant.1 ∙ ap (start l) e in
+    f ∙ capped_is l (omega (arith, c.loop-e.invariant.0))

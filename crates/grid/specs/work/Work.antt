@@ -8,11 +8,12 @@ use Rattle.counting.specs.Search.{first, last, some, count}
 use Rattle.slots.specs.claims.Slots.{rank_in, third_position}
 use Rattle.slots.specs.Slots.{contains}
 use Rattle.counting.specs.work.Tables.{Table, same_key}
+use Rattle.answer.specs.Refusal.{refusal_numbers}
 use Rattle.answer.specs.declared.Refusal.{Refusal}
 use Rattle.grid.specs.Grid.{Grid, cell_count, node, same_face, is_edge, low, high, start, crossings, starts_of}
 use Rattle.slots.specs.Limits.{highest_node, most_cells, most_crossings, most_slots}
 use Rattle.slots.specs.work.Limits.{most_edges}
-use Rattle.grid.specs.Rows.{bad_edge, bad_length, crowded, repeats, rows, unused}
+use Rattle.grid.specs.Rows.{bad_edge, bad_length, rows, unused}
 use Rattle.grid.specs.Setting.{change_answer}
 use Rattle.grid.specs.work.Shared.{found_or}
 use Rattle.grid.specs.work.Walks.{Fresh}
@@ -52,11 +53,6 @@ pub record Pairable (keys : List ℕ) (n : ℕ) (seen near : List ℕ) : Type 0 
   pub small : n < 65535
   pub blank : Mates keys 0 near
 
--- what `pair` leaves: the first place whose key has come twice before, and the mates below it
-pub record Pairing (keys : List ℕ) (n r : ℕ) (near : List ℕ) : Type 0 where
-  pub is : r ≡ first (third_at keys) n
-  pub mates : Mates keys r near
-
 -- the slot across slot j
 pub record Across (cells near : List ℕ) (j : ℕ) : Type 0 where
   pub lt : get_or near j 0 ≤ 4 * cell_count cells
@@ -75,12 +71,6 @@ pub record Neighbours (cells near : List ℕ) : Type 0 where
 unfoldable pub again_at : (cells near : List ℕ) → ℕ → Bool
 again_at cells near c =
     eqb (get_or near (4 * c) 0 % 4) 1 && (ltb (get_or near (4 * c) 0 / 4) c && eqb (node cells (get_or near (4 * c) 0 / 4) 0) (node cells c 0))
-
--- what `early_rows` answers and leaves: rows 4 and 5 as one number
-pub record Early (cells : List ℕ) (r : ℕ) (near : List ℕ) : Type 0 where
-  pub row4 : r < cell_count cells → r ≡ first (repeats cells) (cell_count cells)
-  pub row5 : cell_count cells ≤ r → (cell_count cells ≡ first (repeats cells) (cell_count cells)) × (r ≡ cell_count cells + first (crowded cells) (cell_count cells))
-  pub near_is : 2 * cell_count cells ≤ r → Neighbours cells near
 
 -- EDGES: the edges of the cells by their ends, and their places in the list
 
@@ -238,6 +228,11 @@ WhereAccepted (Err refusal) T = Unit {0}
 -- the answer of the rows from number n on
 unfoldable pub answer_from : ℕ → Grid → List ℕ
 answer_from n G = answer_of (since n (rows G)) (result_of (crossings G.counts ∷ []))
+
+-- what `early_rows` answers and leaves: the refusal of row 4 or 5; else neither refuses, and near has the neighbours
+abbrev pub Early : Grid → List ℕ → Result Unit Refusal → Type 0
+Early G near (Ok t) = (answer_from 6 G ≡ answer_from 4 G) × Neighbours G.cells near
+Early G near (Err r) = refusal_numbers r ≡ answer_from 4 G
 
 -- the answer of all rows, with this verdict for row 2
 unfoldable pub answer_with : Bool → Grid → List ℕ

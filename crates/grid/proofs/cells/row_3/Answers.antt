@@ -1,16 +1,14 @@
 use mathlib.Core.Path.{◌∙◌, sym}
 use native.Mathlib.Omega.{arith}
-use Rattle.counting.proofs.Search.{seeking_all, seeking_hit, seeking_more, seeking_none}
+use borrow.Author.Count.{below_more}
+use Rattle.counting.proofs.Search.{found_end, found_hit}
 use Rattle.grid.proofs.cells.row_3.Goals as goal
 
-pub loop-c-init : goal.loop-c-init
-loop-c-init c = seeking_none _ _
-
 pub returns-then-bad_cell : goal.returns-then-bad_cell
-returns-then-bad_cell c = seeking_hit _ c.loop-c.invariant (omega arith) (sym c.bad_cell.ensures ∙ c.if-bad_cell.true)
+returns-then-bad_cell c = record { value = found_hit _ _ _ (omega arith) (sym c.bad_cell.ensures ∙ c.if-bad_cell.true) c.loop-c.invariant; small = λ i. omega (arith, c.type_inv.cells i) }
 
 pub loop-c-preserved : goal.loop-c-preserved
-loop-c-preserved c = seeking_more _ c.loop-c.invariant (omega arith) (sym c.bad_cell.ensures ∙ c.if-bad_cell.false)
+loop-c-preserved c = below_more _ _ c.loop-c.invariant (sym c.bad_cell.ensures ∙ c.if-bad_cell.false)
 
 pub returns : goal.returns
-returns c = seeking_all _ c.loop-c.invariant (omega arith)
+returns c = record { value = found_end _ _ (λ i h. c.loop-c.invariant i (omega arith)); small = λ i. omega (arith, c.type_inv.cells i) }

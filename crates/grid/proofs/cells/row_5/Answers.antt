@@ -1,5 +1,7 @@
+use mathlib.Core.Path.{◌∙◌, sym}
 use native.Mathlib.Omega.{arith}
-use Rattle.grid.proofs.Faces.{paired_near, third_first}
+use Rattle.grid.proofs.Blocks.{block_found, block_none}
+use Rattle.grid.proofs.Faces.{mates_near, third_first}
 use Rattle.grid.proofs.Mates.{mates_none}
 use Rattle.grid.proofs.cells.row_5.Goals as goal
 
@@ -14,7 +16,16 @@ pair-requires c = let p = c.requires in
       blank = mates_none _ _ p.fresh_2.blank;
     }
 
+pub returns-in_err-third : goal.returns-in_err-third
+returns-in_err-third c = let p = c.requires in
+    record {
+      value = rw c.from_residual.ensures (block_none _ _ 4 _ (omega arith) (third_first _ p.rising_cells _ p.slots) (sym c.in_err-third.was ∙ c.pair.ensures.value));
+      neighbours = λ e. mates_near _ p.rising_cells _ p.slots _ (omega (arith, c.pair.auto.near, p.fresh_2.room)) (c.pair.ensures.mates c.in_err-third.was);
+    }
+
 pub returns : goal.returns
 returns c = let p = c.requires in
-    let q = c.pair.ensures in
-    record { value = rw q.is (third_first _ p.rising_cells _ p.slots); neighbours = λ h. paired_near _ p.rising_cells _ p.slots _ _ (omega (arith, c.pair.auto.near, p.fresh_2.room)) q h }
+    record {
+      value = block_found _ _ 4 _ (omega arith) (third_first _ p.rising_cells _ p.slots) _ (sym c.in_ok-third.was ∙ c.pair.ensures.value);
+      neighbours = λ e. absurd cc;
+    }

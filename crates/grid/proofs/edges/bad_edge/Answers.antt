@@ -1,33 +1,26 @@
 use Prim.Native.Nat.{◌-◌}
 use native.Mathlib.Omega.{arith}
-use borrow.Author.Tests.{le-ltb, lt-ltb}
+use borrow.Author.Tests.{le-leb, le-ltb, lt-ltb}
 use Rattle.grid.specs.Rows.{bad_edge}
 use Rattle.grid.proofs.Sides.{after_key, leb_not}
 use Rattle.grid.proofs.edges.bad_edge.Goals as goal
 
-pub returns-then-v-u : goal.returns-then-v-u
+pub returns-then-edges-e : goal.returns-then-edges-e
 unfolding bad_edge
-returns-then-v-u c = let c-end-at = c.end_at-u in
-    rw (← c-end-at.ensures.value, ← c.end_at-v.ensures.value, le-ltb _ _ c.if-v-u.true)
+returns-then-edges-e c = rw (le-leb _ _ c.if-edges-e.true, le-ltb _ _ c.if-edges-e.true)
 
-pub returns-then-e-eq0 : goal.returns-then-e-eq0
+pub returns-then-e-gt0 : goal.returns-then-e-gt0
 unfolding bad_edge
-returns-then-e-eq0 c = let c-args = c.args in
-    let c-end-at = c.end_at-u in
-    rw (← c-end-at.ensures.value, ← c.end_at-v.ensures.value, lt-ltb _ _ c.if-v-u.false, le-ltb 0 c-args.e (omega arith))
-
-pub returns : goal.returns
-unfolding bad_edge
-returns c = let c-args = c.args in
-    let c-end-at = c.end_at-u in
-    let c-end-at2 = c.end_at-v in
+returns-then-e-gt0 c = let a = c.args in
     rw (
-      ← c-end-at.ensures.value,
-      ← c-end-at2.ensures.value,
-      lt-ltb _ _ c.if-v-u.false,
-      lt-ltb 0 c-args.e (omega (arith, c.if-e-eq0.false)),
-      after_key c-args.edges.now (λ i. omega (arith, c.type_inv.edges i)) (c-args.e - 1) c-args.e,
+      lt-ltb _ _ c.if-edges-e.false,
+      lt-ltb _ _ c.if-e-gt0.true,
+      after_key a.edges.now (λ i. omega (arith, c.type_inv.edges i)) (a.e - 1) a.e,
       ← c.edge_key.ensures,
-      ← c.edge_key-2.ensures,
+      ← c.edge_key-then-e-gt0.ensures,
     )
-    (leb_not c.edge_key.result c.edge_key-2.result)
+    (leb_not c.edge_key.result c.edge_key-then-e-gt0.result)
+
+pub returns-else-e-gt0 : goal.returns-else-e-gt0
+unfolding bad_edge
+returns-else-e-gt0 c = rw (lt-ltb _ _ c.if-edges-e.false, le-ltb _ _ c.if-e-gt0.false)

@@ -1,8 +1,11 @@
-use Rattle.grid.proofs.Starts.{ends_bad, ends_fine}
+use borrow.Author.Tests.{eq-eqb, ne_eqb}
+use Rattle.grid.specs.Rows.{bad_numbers}
 use Rattle.grid.proofs.edges.bad_numbers.Goals as goal
 
 pub returns-then-edges-counts : goal.returns-then-edges-counts
-returns-then-edges-counts c = ends_bad _ _ _ c.if-edges-counts.true
+unfolding bad_numbers
+returns-then-edges-counts c = rw (ne_eqb _ _ c.if-edges-counts.true)
 
-pub returns : goal.returns
-returns c = ends_fine _ _ _ c.if-edges-counts.false
+pub returns-else-edges-counts : goal.returns-else-edges-counts
+unfolding bad_numbers
+returns-else-edges-counts c = rw (eq-eqb _ _ c.if-edges-counts.false)

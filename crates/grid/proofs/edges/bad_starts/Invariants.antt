@@ -1,7 +1,5 @@
-use Prim.Native.Nat.{◌-◌, ◌≤◌}
 use mathlib.Core.Path.{◌≡◌}
 use mathlib.Core.Bool.{false}
-use lib.ListN.{length}
 use Rattle.counting.specs.Search.{some}
 use Rattle.grid.specs.Grid.{start}
 use Rattle.grid.specs.Rows.{bad_start}
@@ -9,7 +7,4 @@ use Rattle.grid.proofs.edges.bad_starts.Given as goal
 
 -- the sum is the start of the next edge, and no start so far is bad
 abbrev pub invariant-loop-e : goal.invariant-loop-e
-invariant-loop-e l = (l.e ≤ length l.counts) × (l.s ≡ start l.counts l.e) × (some (bad_start l.counts l.starts) l.e ≡ false)
-
-abbrev pub decreases-loop-e : goal.decreases-loop-e
-decreases-loop-e l = length l.counts - l.e
+invariant-loop-e l = (l.sum ≡ start l.counts l.e) × (some (bad_start l.counts l.starts) l.e ≡ false)

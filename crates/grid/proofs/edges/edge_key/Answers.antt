@@ -1,6 +1,7 @@
+use mathlib.Core.Path.{refl}
 use Rattle.grid.specs.work.Shared.{edge_key}
 use Rattle.grid.proofs.edges.edge_key.Goals as goal
 
 pub returns : goal.returns
 unfolding edge_key
-returns c = rw (c.end_at-u.ensures.value, c.end_at-v.ensures.value)
+returns c = refl

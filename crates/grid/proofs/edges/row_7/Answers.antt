@@ -1,15 +1,16 @@
-use Prim.Native.Nat.{ℕ, ◌/◌}
-use mathlib.Core.Path.{◌∙◌, ap, sym}
+use mathlib.Core.Path.{refl}
 use native.Mathlib.Omega.{arith}
 use borrow.Author.Tests.{eq-eqb, ne_eqb}
-use Rattle.counting.proofs.Search.{seeking_all, seeking_hit, seeking_more, seeking_none}
+use borrow.Author.Count.{below_more, below_none}
+use Rattle.counting.proofs.Search.{found_end, found_hit}
+use Rattle.grid.proofs.Blocks.{block_found, block_none}
 use Rattle.grid.specs.Grid.{cell_count}
 use Rattle.grid.proofs.Laying.{tallying_end, tallying_few, tallying_lt, tallying_more, tallying_room, tallying_start}
 use Rattle.grid.proofs.Sides.{blank_first}
 use Rattle.grid.proofs.edges.row_7.Goals as goal
 
 pub loop-j-init : goal.loop-j-init
-loop-j-init c = (seeking_none _ _, tallying_start c.requires)
+loop-j-init c = (below_none _, tallying_start c.requires)
 
 pub offset_bounds-sides-j : goal.offset_bounds-sides-j
 offset_bounds-sides-j c = omega (arith, c.requires.keyed)
@@ -24,34 +25,34 @@ pub shape_of-degree-then-t-eq0 : goal.shape_of-degree-then-t-eq0
 shape_of-degree-then-t-eq0 c = c.loop-j.invariant.1.degree_same
 
 pub returns-then-t-eq0 : goal.returns-then-t-eq0
-returns-then-t-eq0 c = let a = c.args in record { value = ap (λ (x : ℕ). x / 6) (seeking_hit _ c.loop-j.invariant.0 (omega arith) (eq-eqb _ _ (sym c.wide-t.ensures ∙ c.if-t-eq0.true))) ∙ blank_first a.sides.now (cell_count a.cells.now); tallied = λ l. absurd (omega arith) }
+returns-then-t-eq0 c = let a = c.args in record { value = block_found _ _ 6 _ (omega arith) (blank_first a.sides.now (cell_count a.cells.now)) _ (found_hit _ _ _ (omega arith) (eq-eqb _ _ c.if-t-eq0.true) c.loop-j.invariant.0); tallied = λ e. absurd cc }
 
 pub offset_bounds-degree-t : goal.offset_bounds-degree-t
-offset_bounds-degree-t c = omega (arith, tallying_room c.requires c.loop-j.invariant.1 (omega arith) _ c.wide-t.ensures)
+offset_bounds-degree-t c = omega (arith, tallying_room c.requires c.loop-j.invariant.1 (omega arith) _ refl)
 
 pub bounds-degree-t : goal.bounds-degree-t
-bounds-degree-t c = tallying_room c.requires c.loop-j.invariant.1 (omega arith) _ c.wide-t.ensures
+bounds-degree-t c = tallying_room c.requires c.loop-j.invariant.1 (omega arith) _ refl
 
 pub overflow_add-degree : goal.overflow_add-degree
-overflow_add-degree c = omega (arith, tallying_few c.requires c.loop-j.invariant.1 (omega arith) _ c.wide-t.ensures, c.requires.small)
+overflow_add-degree c = omega (arith, tallying_few c.requires c.loop-j.invariant.1 (omega arith) _ refl, c.requires.small)
 
 pub bounds-degree-t-in-loop-j : goal.bounds-degree-t-in-loop-j
-bounds-degree-t-in-loop-j c = tallying_room c.requires c.loop-j.invariant.1 (omega arith) _ c.wide-t.ensures
+bounds-degree-t-in-loop-j c = tallying_room c.requires c.loop-j.invariant.1 (omega arith) _ refl
 
-pub overflow_add-j : goal.overflow_add-j
-overflow_add-j c = omega (arith, c.requires.small)
+pub overflow_add-top : goal.overflow_add-top
+overflow_add-top c = omega (arith, c.requires.small)
 
 pub overflow_cast-top : goal.overflow_cast-top
 overflow_cast-top c = omega (arith, c.requires.small)
 
 pub offset_bounds-top-t : goal.offset_bounds-top-t
-offset_bounds-top-t c = omega (arith, tallying_lt c.requires c.loop-j.invariant.1 (omega arith) _ c.wide-t.ensures)
+offset_bounds-top-t c = omega (arith, tallying_lt c.requires c.loop-j.invariant.1 (omega arith) _ refl)
 
 pub bounds-top-t : goal.bounds-top-t
-bounds-top-t c = tallying_lt c.requires c.loop-j.invariant.1 (omega arith) _ c.wide-t.ensures
+bounds-top-t c = tallying_lt c.requires c.loop-j.invariant.1 (omega arith) _ refl
 
 pub loop-j-preserved : goal.loop-j-preserved
-loop-j-preserved c = (seeking_more _ c.loop-j.invariant.0 (omega arith) (ne_eqb _ _ (λ e. c.if-t-eq0.false (c.wide-t.ensures ∙ e))), tallying_more c.requires c.loop-j.invariant.1 (omega arith) _ c.wide-t.ensures)
+loop-j-preserved c = (below_more _ _ c.loop-j.invariant.0 (ne_eqb _ _ c.if-t-eq0.false), tallying_more c.requires c.loop-j.invariant.1 (omega arith) _ refl)
 
 pub returns : goal.returns
-returns c = let a = c.args in record { value = ap (λ (x : ℕ). x / 6) (seeking_all _ c.loop-j.invariant.0 (omega arith)) ∙ blank_first a.sides.now (cell_count a.cells.now); tallied = λ l. tallying_end c.requires c.loop-j.invariant.1 c.loop-j.invariant.0.within (omega arith) }
+returns c = let a = c.args in record { value = block_none _ _ 6 _ (omega arith) (blank_first a.sides.now (cell_count a.cells.now)) (found_end _ _ (λ i h. c.loop-j.invariant.0 i (omega arith))); tallied = λ q. tallying_end c.requires c.loop-j.invariant.1 (omega arith) (omega arith) }

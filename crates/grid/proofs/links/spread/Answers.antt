@@ -1,5 +1,5 @@
 use Prim.Native.Nat.{ℕ, ◌<◌, min}
-use mathlib.Core.Path.{◌≡◌, sym, ap, ◌∙◌}
+use mathlib.Core.Path.{◌≡◌, refl, sym, ap, ◌∙◌}
 use native.Mathlib.Omega.{arith}
 use Rattle.grid.proofs.Marks.{marked_le, unmarked_less, walking_end, walking_lt, walking_met, walking_more, walking_start}
 use Rattle.slots.specs.Slots.{position}
@@ -16,7 +16,7 @@ pub bounds-near-start : goal.bounds-near-start
 bounds-near-start c = omega (arith, c.requires.slot, c.requires.near_room)
 
 pub loop-p-init : goal.loop-p-init
-loop-p-init c = walking_start c.requires _ c.wide-p.ensures
+loop-p-init c = walking_start c.requires _ refl
 
 pub offset_bounds-marks-c : goal.offset_bounds-marks-c
 offset_bounds-marks-c c = omega (arith, walking_lt c.requires c.loop-p.invariant, c.requires.few)
@@ -42,11 +42,11 @@ overflow_add-met c = omega (arith, c.loop-p.invariant.counted, marked_le c.loop-
 pub rank_of-r-requires : goal.rank_of-r-requires
 rank_of-r-requires c = record { i_bound = omega arith; s_bound = c.position-s.ensures.1; i_nonzero = λ e. omitted _ _ (sym c.position-s.ensures.0 ∙ sym e) }
 
-pub overflow_mul-c : goal.overflow_mul-c
-overflow_mul-c c = omega (arith, walking_lt c.requires c.loop-p.invariant, c.requires.few, c.position-s.ensures.1)
+pub overflow_mul-p : goal.overflow_mul-p
+overflow_mul-p c = omega (arith, walking_lt c.requires c.loop-p.invariant, c.requires.few, c.position-s.ensures.1)
 
-pub overflow_add-c : goal.overflow_add-c
-overflow_add-c c = omega (arith, walking_lt c.requires c.loop-p.invariant, c.requires.few, c.position-s.ensures.1)
+pub overflow_add-p : goal.overflow_add-p
+overflow_add-p c = omega (arith, walking_lt c.requires c.loop-p.invariant, c.requires.few, c.position-s.ensures.1)
 
 pub offset_bounds-near-c : goal.offset_bounds-near-c
 offset_bounds-near-c c = omega (arith, walking_lt c.requires c.loop-p.invariant, c.requires.few, c.position-s.ensures.1)
@@ -63,7 +63,7 @@ loop-p-smaller c = let P = c.requires in
 pub loop-p-preserved : goal.loop-p-preserved
 loop-p-preserved c = let s = c.position-s.ensures in
     let t = c.rank_of-r.ensures in
-    walking_more c.requires c.loop-p.invariant (omega arith) c.if-marks-c.false _ _ _ s.1 (at_rank _ c.loop-p.invariant.rank_lt s.0) t.upper_bound t.value c.wide-p-in-loop-p.ensures
+    walking_more c.requires c.loop-p.invariant (omega arith) c.if-marks-c.false _ _ _ s.1 (at_rank _ c.loop-p.invariant.rank_lt s.0) t.upper_bound t.value refl
 
 pub shape_of-marks : goal.shape_of-marks
 shape_of-marks c = c.loop-p.invariant.same

@@ -5,23 +5,23 @@ use Rattle.grid.proofs.Passes.{label_end, label_more, label_one}
 use Rattle.grid.proofs.numbering.label.Goals as goal
 
 pub loop-j-init : goal.loop-j-init
-loop-j-init c = (omega arith, does_none _ _ _ _ _ _ (λ j h. omega arith))
+loop-j-init c = does_none _ _ _ _ _ _ (λ j h. omega arith)
 
 pub number-m-requires : goal.number-m-requires
-number-m-requires c = label_one c.requires c.loop-j.invariant.1 (omega arith)
+number-m-requires c = label_one c.requires c.loop-j.invariant (omega arith)
 
 pub loop-j-preserved : goal.loop-j-preserved
 loop-j-preserved c = let w = c.loop-j.invariant in
     let e = c.number-m.ensures in
-    (omega arith, label_more c.requires w.1 (does_number _ _ _ _ _ _ (label_one c.requires w.1 (omega arith)) _ _ _ e.value e.at_after e.out_after))
+    label_more c.requires w (does_number _ _ _ _ _ _ (label_one c.requires w (omega arith)) _ _ _ e.value e.at_after e.out_after)
 
 pub shape_of-at : goal.shape_of-at
-shape_of-at c = c.loop-j.invariant.1.at_long
+shape_of-at c = c.loop-j.invariant.at_long
 
 pub shape_of-out : goal.shape_of-out
-shape_of-out c = c.loop-j.invariant.1.out_long
+shape_of-out c = c.loop-j.invariant.out_long
 
 pub returns : goal.returns
 returns c = let w = c.loop-j.invariant in
-    let e : c.loop-j.j ≡ c.args.n = omega (arith, w.0) in
-    label_end c.requires (rw e at w.1)
+    let e : c.loop-j.j ≡ c.args.n = omega arith in
+    label_end c.requires (rw e at w)

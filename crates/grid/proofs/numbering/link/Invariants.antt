@@ -1,4 +1,3 @@
-use Prim.Native.Nat.{◌-◌, ◌≤◌}
 use mathlib.Core.Path.{◌≡◌}
 use lib.ListN.{length}
 use Rattle.grid.specs.work.Walks.{label_at}
@@ -6,7 +5,4 @@ use Rattle.grid.proofs.Passes.{Linking}
 use Rattle.grid.proofs.numbering.link.Given as goal
 
 abbrev pub invariant-loop-c : goal.invariant-loop-c
-invariant-loop-c l = (l.c ≤ l.n) × (length l.head ≡ length l.initial.head) × (length l.next ≡ length l.initial.next) × Linking (label_at l.labels l.i) l.head l.next l.c
-
-abbrev pub decreases-loop-c : goal.decreases-loop-c
-decreases-loop-c l = l.n - l.c
+invariant-loop-c l = (length l.head ≡ length l.initial.head) × (length l.next ≡ length l.initial.next) × Linking (label_at l.labels l.i) l.head l.next l.c

@@ -6,39 +6,39 @@ use Rattle.grid.proofs.numbering.numbers.Goals as goal
 
 pub loop-s-init : goal.loop-s-init
 loop-s-init c = let p = c.requires in
-    (omega arith, omega (arith, p.from_le_to), slots_none _ _ _ p.to_bound)
+    slots_none _ _ _ p.to_bound
 
 pub overflow_mul-c : goal.overflow_mul-c
 overflow_mul-c c = let p = c.requires in
     let w = c.loop-s.invariant in
-    let f = p.ready.fits _ (slot_in _ _ _ _ w.0 (omega arith) p.to_bound) in
+    let f = p.ready.fits _ (slot_in c.args.c c.args.from c.args.to c.loop-s.s (omega arith) (omega arith) p.to_bound) in
     omega (arith, f.1, p.ready.small)
 
 pub overflow_add-c : goal.overflow_add-c
 overflow_add-c c = let p = c.requires in
     let w = c.loop-s.invariant in
-    let f = p.ready.fits _ (slot_in _ _ _ _ w.0 (omega arith) p.to_bound) in
+    let f = p.ready.fits _ (slot_in c.args.c c.args.from c.args.to c.loop-s.s (omega arith) (omega arith) p.to_bound) in
     omega (arith, f.1, p.ready.small)
 
 pub number-m-requires : goal.number-m-requires
 number-m-requires c = let p = c.requires in
     let w = c.loop-s.invariant in
-    slots_ready _ _ _ p.to_bound w.0 (omega arith) w.2 p.ready
+    slots_ready _ _ _ p.to_bound (omega arith) (omega arith) w p.ready
 
 pub loop-s-preserved : goal.loop-s-preserved
 loop-s-preserved c = let p = c.requires in
     let w = c.loop-s.invariant in
     let e = c.number-m.ensures in
-    let r = slots_ready _ _ _ p.to_bound w.0 (omega arith) w.2 p.ready in
-    (omega arith, omega arith, slots_more _ _ _ p.to_bound w.0 (omega arith) w.2 (does_number _ _ _ _ _ _ r _ _ _ e.value e.at_after e.out_after))
+    let r = slots_ready _ _ _ p.to_bound (omega arith) (omega arith) w p.ready in
+    slots_more _ _ _ p.to_bound (omega arith) (omega arith) w (does_number _ _ _ _ _ _ r _ _ _ e.value e.at_after e.out_after)
 
 pub shape_of-at : goal.shape_of-at
-shape_of-at c = c.loop-s.invariant.2.at_long
+shape_of-at c = c.loop-s.invariant.at_long
 
 pub shape_of-out : goal.shape_of-out
-shape_of-out c = c.loop-s.invariant.2.out_long
+shape_of-out c = c.loop-s.invariant.out_long
 
 pub returns : goal.returns
 returns c = let w = c.loop-s.invariant in
-    let e : c.loop-s.s ≡ c.args.to = omega (arith, w.1) in
-    rw (← e) w.2
+    let e : c.loop-s.s ≡ c.args.to = omega arith in
+    rw (← e) w

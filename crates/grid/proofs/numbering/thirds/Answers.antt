@@ -6,7 +6,7 @@ use Rattle.grid.proofs.Tellings.{thirds_more}
 use Rattle.grid.proofs.numbering.thirds.Goals as goal
 
 pub loop-c-init : goal.loop-c-init
-loop-c-init c = (omega arith, filled_none _ _)
+loop-c-init c = filled_none _ _
 
 pub overflow_mul-last : goal.overflow_mul-last
 overflow_mul-last c = omega (arith, c.requires.n_in_bounds)
@@ -27,7 +27,7 @@ pub offset_bounds-out-c : goal.offset_bounds-out-c
 offset_bounds-out-c c = omega (arith, c.requires.n_in_bounds)
 
 pub bounds-out-c : goal.bounds-out-c
-bounds-out-c c = omega (arith, simp length_filled at (ap length c.loop-c.invariant.1), c.requires.n_in_bounds_2)
+bounds-out-c c = omega (arith, simp length_filled at (ap length c.loop-c.invariant), c.requires.n_in_bounds_2)
 
 pub overflow_mul-out-in-loop-c : goal.overflow_mul-out-in-loop-c
 overflow_mul-out-in-loop-c c = omega (arith, c.requires.n_in_bounds)
@@ -39,7 +39,7 @@ pub offset_bounds-out-c-in-loop-c : goal.offset_bounds-out-c-in-loop-c
 offset_bounds-out-c-in-loop-c c = omega (arith, c.requires.n_in_bounds)
 
 pub bounds-out-c-in-loop-c : goal.bounds-out-c-in-loop-c
-bounds-out-c-in-loop-c c = simp length-set (omega (arith, simp length_filled at (ap length c.loop-c.invariant.1), c.requires.n_in_bounds_2))
+bounds-out-c-in-loop-c c = simp length-set (omega (arith, simp length_filled at (ap length c.loop-c.invariant), c.requires.n_in_bounds_2))
 
 pub overflow_mul-out-in-loop-c-2 : goal.overflow_mul-out-in-loop-c-2
 overflow_mul-out-in-loop-c-2 c = omega (arith, c.requires.n_in_bounds)
@@ -51,7 +51,7 @@ pub offset_bounds-out-c-in-loop-c-2 : goal.offset_bounds-out-c-in-loop-c-2
 offset_bounds-out-c-in-loop-c-2 c = omega (arith, c.requires.n_in_bounds)
 
 pub bounds-out-c-in-loop-c-2 : goal.bounds-out-c-in-loop-c-2
-bounds-out-c-in-loop-c-2 c = simp length-set (omega (arith, simp length_filled at (ap length c.loop-c.invariant.1), c.requires.n_in_bounds_2))
+bounds-out-c-in-loop-c-2 c = simp length-set (omega (arith, simp length_filled at (ap length c.loop-c.invariant), c.requires.n_in_bounds_2))
 
 pub overflow_mul-out-in-loop-c-3 : goal.overflow_mul-out-in-loop-c-3
 overflow_mul-out-in-loop-c-3 c = omega (arith, c.requires.n_in_bounds)
@@ -75,18 +75,15 @@ pub offset_bounds-out-c-in-loop-c-3 : goal.offset_bounds-out-c-in-loop-c-3
 offset_bounds-out-c-in-loop-c-3 c = omega (arith, c.requires.n_in_bounds)
 
 pub bounds-out-c-in-loop-c-3 : goal.bounds-out-c-in-loop-c-3
-bounds-out-c-in-loop-c-3 c = simp length-set (omega (arith, simp length_filled at (ap length c.loop-c.invariant.1), c.requires.n_in_bounds_2))
-
-pub overflow_add-c : goal.overflow_add-c
-overflow_add-c c = omega (arith, c.requires.n_in_bounds)
+bounds-out-c-in-loop-c-3 c = simp length-set (omega (arith, simp length_filled at (ap length c.loop-c.invariant), c.requires.n_in_bounds_2))
 
 pub loop-c-preserved : goal.loop-c-preserved
-loop-c-preserved c = (omega arith, thirds_more c.args.labels.now c.args.out.now c.loop-c.out c.loop-c.c c.loop-c.invariant.1)
+loop-c-preserved c = thirds_more c.args.labels.now c.args.out.now c.loop-c.out c.loop-c.c c.loop-c.invariant
 
 pub shape_of-out : goal.shape_of-out
-shape_of-out c = simp length_filled at (ap length c.loop-c.invariant.1)
+shape_of-out c = simp length_filled at (ap length c.loop-c.invariant)
 
 pub returns : goal.returns
 returns c = let w = c.loop-c.invariant in
-    let e : c.loop-c.c ≡ c.args.n = omega (arith, w.0) in
-    rw (← e) w.1
+    let e : c.loop-c.c ≡ c.args.n = omega arith in
+    rw (← e) w

@@ -1,3 +1,4 @@
+use mathlib.Core.Path.{refl}
 use native.Mathlib.Omega.{arith}
 use Rattle.grid.proofs.Places.{walking_empty, walking_end, walking_less, walking_lt, walking_more, walking_ready, walking_start}
 use Rattle.grid.proofs.numbering.walk.Goals as goal
@@ -9,7 +10,7 @@ pub bounds-head-r : goal.bounds-head-r
 bounds-head-r c = omega (arith, c.requires.within, c.requires.linked.heads.room)
 
 pub loop-j-init : goal.loop-j-init
-loop-j-init c = walking_start _ c.wide-j.ensures
+loop-j-init c = walking_start _ refl
 
 pub numbers-m-requires : goal.numbers-m-requires
 numbers-m-requires c = let p = c.requires in record { from_le_to = p.ordered; to_bound = p.slots; ready = walking_ready c.loop-j.invariant (omega arith) p }
@@ -21,10 +22,10 @@ pub bounds-next-c : goal.bounds-next-c
 bounds-next-c c = walking_lt c.loop-j.invariant (omega arith) c.requires
 
 pub loop-j-smaller : goal.loop-j-smaller
-loop-j-smaller c = omega (arith, c.wide-j-in-loop-j.ensures, walking_less c.loop-j.invariant (omega arith) c.requires)
+loop-j-smaller c = omega (arith, walking_less c.loop-j.invariant (omega arith) c.requires)
 
 pub loop-j-preserved : goal.loop-j-preserved
-loop-j-preserved c = walking_more c.loop-j.invariant (omega arith) c.numbers-m.ensures _ c.wide-j-in-loop-j.ensures
+loop-j-preserved c = walking_more c.loop-j.invariant (omega arith) c.numbers-m.ensures _ refl
 
 pub shape_of-at : goal.shape_of-at
 shape_of-at c = c.loop-j.invariant.at_long

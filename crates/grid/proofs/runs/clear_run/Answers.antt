@@ -17,7 +17,7 @@ pub bounds-edges-e : goal.bounds-edges-e
 bounds-edges-e c = omega (arith, c.requires.ends)
 
 pub loop-e-preserved : goal.loop-e-preserved
-loop-e-preserved c = (clearing_more c.loop-e.invariant.0 _ (rw c.wide.ensures at c.put_at.ensures), ap length c.put_at.ensures ∙ (simp length-set) ∙ c.loop-e.invariant.1)
+loop-e-preserved c = (clearing_more c.loop-e.invariant.0 _ c.put_at.ensures, ap length c.put_at.ensures ∙ (simp length-set) ∙ c.loop-e.invariant.1)
 
 pub shape_of-tab : goal.shape_of-tab
 shape_of-tab c = c.loop-e.invariant.1

@@ -32,14 +32,14 @@ overflow_add-e c = omega (arith, c.requires.ends)
 pub bounds-edges-e-in-loop-e : goal.bounds-edges-e-in-loop-e
 bounds-edges-e-in-loop-e c = omega (arith, c.requires.ends)
 
-pub overflow_add-least : goal.overflow_add-least
-overflow_add-least c = omega (arith, c.least.ensures, c.requires.small)
+pub overflow_add-min : goal.overflow_add-min
+overflow_add-min c = omega (arith, c.requires.small)
 
 pub put_at-requires : goal.put_at-requires
-put_at-requires c = omega (arith, c.least.ensures, c.requires.small)
+put_at-requires c = omega (arith, c.requires.small)
 
 pub loop-e-preserved : goal.loop-e-preserved
-loop-e-preserved c = filling_more c.loop-e.invariant (omega arith) c.if-edges-e.false _ c.least.ensures _ (rw c.wide.ensures at c.put_at.ensures)
+loop-e-preserved c = filling_more c.loop-e.invariant (omega arith) c.if-edges-e.false c.min.result c.min.ensures _ c.put_at.ensures
 
 pub shape_of-tab : goal.shape_of-tab
 shape_of-tab c = c.loop-e.invariant.same

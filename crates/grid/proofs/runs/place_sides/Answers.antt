@@ -9,8 +9,8 @@ overflow_mul-cap c = omega (arith, c.requires.few)
 pub loop-e-init : goal.loop-e-init
 loop-e-init c = placing_start c.requires
 
-pub overflow_mul-e : goal.overflow_mul-e
-overflow_mul-e c = omega (arith, c.requires.ends)
+pub overflow_mul-u : goal.overflow_mul-u
+overflow_mul-u c = omega (arith, c.requires.ends)
 
 pub offset_bounds-edges-e : goal.offset_bounds-edges-e
 offset_bounds-edges-e c = omega (arith, c.requires.ends)
@@ -25,7 +25,7 @@ pub shape_of-sides-then-u-gt-HIGHEST_NODE : goal.shape_of-sides-then-u-gt-HIGHES
 shape_of-sides-then-u-gt-HIGHEST_NODE c = c.loop-e.invariant.same
 
 pub returns-then-u-gt-HIGHEST_NODE : goal.returns-then-u-gt-HIGHEST_NODE
-returns-then-u-gt-HIGHEST_NODE c = placing_stop c.requires c.loop-e.invariant (omega arith) (omega (arith, c.wide-u.ensures, c.if-u-gt-HIGHEST_NODE.true))
+returns-then-u-gt-HIGHEST_NODE c = placing_stop c.requires c.loop-e.invariant (omega arith) (omega (arith, c.if-u-gt-HIGHEST_NODE.true))
 
 pub fill_run-f-requires : goal.fill_run-f-requires
 fill_run-f-requires c = placing_fillable c.requires c.loop-e.invariant (omega arith) _ refl
@@ -40,7 +40,7 @@ pub loop-e-smaller : goal.loop-e-smaller
 loop-e-smaller c = omega (arith, c.fill_run-f.ensures.more, c.fill_run-f.ensures.within)
 
 pub loop-e-preserved : goal.loop-e-preserved
-loop-e-preserved c = placing_more c.requires c.loop-e.invariant (omega arith) refl c.fill_run-f.ensures _ c.wide-u.ensures _ _ c.clear_run.ensures (c.clear_run.auto.tab ∙ c.fill_run-f.ensures.same) c.turn_sides.ensures
+loop-e-preserved c = placing_more c.requires c.loop-e.invariant (omega arith) refl c.fill_run-f.ensures _ refl _ _ c.clear_run.ensures (c.clear_run.auto.tab ∙ c.fill_run-f.ensures.same) c.turn_sides.ensures
 
 pub shape_of-tab : goal.shape_of-tab
 shape_of-tab c = c.loop-e.invariant.tab_same

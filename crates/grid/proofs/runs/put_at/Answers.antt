@@ -2,5 +2,5 @@ use mathlib.Core.Path.{sym}
 use Rattle.grid.proofs.Laying.{set_beyond}
 use Rattle.grid.proofs.runs.put_at.Goals as goal
 
-pub returns-then-tab-v : goal.returns-then-tab-v
-returns-then-tab-v c = sym (set_beyond _ _ _ c.if-tab-v.true)
+pub returns-else-v-tab : goal.returns-else-v-tab
+returns-else-v-tab c = sym (set_beyond _ _ _ c.if-v-tab.false)

@@ -4,7 +4,7 @@ use Rattle.grid.proofs.Laying.{lays_none, lays_one, putting_end, putting_more}
 use Rattle.grid.proofs.runs.put_sides.Goals as goal
 
 pub loop-k-init : goal.loop-k-init
-loop-k-init c = (omega arith, omega (arith, c.requires.ordered), lays_none _ _ _ _ (λ d q p. omega (arith, p.low, p.high)))
+loop-k-init c = lays_none _ _ _ _ (λ d q p. omega (arith, p.low, p.high))
 
 pub node_at-v-requires : goal.node_at-v-requires
 node_at-v-requires c = record { c_bound = omega (arith, c.requires.within, c.requires.layable.cells-are); i_bound = c.high_end.ensures.1 }
@@ -25,16 +25,13 @@ pub offset_bounds-sides-c : goal.offset_bounds-sides-c
 offset_bounds-sides-c c = omega (arith, c.requires.within, c.requires.layable.few, c.requires.edges)
 
 pub bounds-sides-c : goal.bounds-sides-c
-bounds-sides-c c = omega (arith, c.requires.within, c.requires.layable.room, c.requires.edges, c.loop-k.invariant.2.same)
-
-pub overflow_add-k : goal.overflow_add-k
-overflow_add-k c = omega (arith, c.requires.edges)
+bounds-sides-c c = omega (arith, c.requires.within, c.requires.layable.room, c.requires.edges, c.loop-k.invariant.same)
 
 pub loop-k-preserved : goal.loop-k-preserved
-loop-k-preserved c = (omega (arith, c.loop-k.invariant.0), omega arith, putting_more c.loop-k.invariant.2 c.loop-k.invariant.0 _ (lays_one (omega (arith, c.requires.edges)) (omega (arith, c.requires.within, c.requires.layable.room, c.requires.edges, c.loop-k.invariant.2.same)) _ (rw (c.node_at-v.ensures.value, c.high_end.ensures.0)) _ refl))
+loop-k-preserved c = putting_more c.loop-k.invariant (omega arith) _ (lays_one (omega (arith, c.requires.edges)) (omega (arith, c.requires.within, c.requires.layable.room, c.requires.edges, c.loop-k.invariant.same)) _ (rw (c.node_at-v.ensures.value, c.high_end.ensures.0)) _ refl)
 
 pub shape_of-sides : goal.shape_of-sides
-shape_of-sides c = c.loop-k.invariant.2.same
+shape_of-sides c = c.loop-k.invariant.same
 
 pub returns : goal.returns
-returns c = putting_end c.loop-k.invariant.2 c.loop-k.invariant.1 (omega arith)
+returns c = putting_end c.loop-k.invariant (omega arith) (omega arith)

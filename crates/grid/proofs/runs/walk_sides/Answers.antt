@@ -1,3 +1,4 @@
+use mathlib.Core.Path.{refl}
 use native.Mathlib.Omega.{arith}
 use Rattle.grid.proofs.Laying.{along_end, along_less, along_lt, along_more, along_puttable, along_start}
 use Rattle.grid.proofs.runs.walk_sides.Goals as goal
@@ -9,7 +10,7 @@ pub bounds-head-r : goal.bounds-head-r
 bounds-head-r c = omega (arith, c.requires.within, c.requires.linked.heads.room)
 
 pub loop-j-init : goal.loop-j-init
-loop-j-init c = along_start _ c.wide-j.ensures
+loop-j-init c = along_start _ refl
 
 pub put_sides-requires : goal.put_sides-requires
 put_sides-requires c = along_puttable c.loop-j.invariant (omega arith) c.requires
@@ -21,10 +22,10 @@ pub bounds-next-c : goal.bounds-next-c
 bounds-next-c c = along_lt c.loop-j.invariant (omega arith) c.requires
 
 pub loop-j-smaller : goal.loop-j-smaller
-loop-j-smaller c = omega (arith, c.wide-j-in-loop-j.ensures, along_less c.loop-j.invariant (omega arith) c.requires)
+loop-j-smaller c = omega (arith, along_less c.loop-j.invariant (omega arith) c.requires)
 
 pub loop-j-preserved : goal.loop-j-preserved
-loop-j-preserved c = along_more c.loop-j.invariant (omega arith) c.put_sides.ensures _ c.wide-j-in-loop-j.ensures
+loop-j-preserved c = along_more c.loop-j.invariant (omega arith) c.put_sides.ensures _ refl
 
 pub shape_of-sides : goal.shape_of-sides
 shape_of-sides c = c.loop-j.invariant.same

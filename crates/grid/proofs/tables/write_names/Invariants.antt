@@ -1,4 +1,3 @@
-use Prim.Native.Nat.{◌-◌, ◌≤◌}
 use mathlib.Core.Path.{◌≡◌}
 use lib.ListN.{get_or}
 use Rattle.counting.specs.Stored.{filled}
@@ -6,7 +5,4 @@ use Rattle.grid.specs.work.Work.{lower_place}
 use Rattle.grid.proofs.tables.write_names.Given as goal
 
 abbrev pub invariant-loop-j : goal.invariant-loop-j
-invariant-loop-j l = (l.j ≤ l.n) × (l.names ≡ filled (λ j. lower_place j (get_or l.across j 0)) l.j l.initial.names)
-
-abbrev pub decreases-loop-j : goal.decreases-loop-j
-decreases-loop-j l = l.n - l.j
+invariant-loop-j l = (l.names ≡ filled (λ j. lower_place j (get_or l.across j 0)) l.j l.initial.names)

@@ -1,11 +1,8 @@
-use Prim.Native.Nat.{◌-◌, ◌≤◌}
+use Prim.Native.Nat.{◌-◌}
 use mathlib.Core.Path.{◌≡◌}
 use lib.ListN.{get_or}
 use Rattle.counting.specs.Stored.{filled}
 use Rattle.grid.proofs.tables.write_sides.Given as goal
 
 abbrev pub invariant-loop-j : goal.invariant-loop-j
-invariant-loop-j l = (l.j ≤ l.n) × (l.sides ≡ filled (λ j. get_or l.listed j 0 - 1) l.j l.initial.sides)
-
-abbrev pub decreases-loop-j : goal.decreases-loop-j
-decreases-loop-j l = l.n - l.j
+invariant-loop-j l = (l.sides ≡ filled (λ j. get_or l.listed j 0 - 1) l.j l.initial.sides)

@@ -11,29 +11,29 @@ use Rattle.grid.proofs.tables.write_starts.Goals as goal
 
 pub loop-e-init : goal.loop-e-init
 loop-e-init c = let p = c.requires in
-    (p.within, p.own, table_filled _ _ _ (record { room = omega (arith, p.room, p.within); at = p.before }))
+    (p.own, table_filled _ _ _ (record { room = omega (arith, p.room, p.within); at = p.before }))
 
 pub bounds-starts-e : goal.bounds-starts-e
 bounds-starts-e c = let c-pre = c.requires in
     let c-args = c.args in
-    omega (arith, c-pre.room, ap length c.loop-e.invariant.2, length_filled (start c-args.counts.now) c.loop-e.e c-args.starts.now)
+    omega (arith, c-pre.room, ap length c.loop-e.invariant.1, length_filled (start c-args.counts.now) c.loop-e.e c-args.starts.now)
 
 pub overflow_add-sum : goal.overflow_add-sum
 overflow_add-sum c = let c-pre = c.requires in
     let c-args = c.args in
     let c-loop = c.loop-e in
-    omega (arith, c-pre.few, c-loop.invariant.1, c.size-sum.ensures.upper_bound, start_mono c-args.counts.now c-loop.e (length c-args.counts.now) (omega arith))
+    omega (arith, c-pre.few, c-loop.invariant.0, c.type_inv.counts c-loop.e, start_mono c-args.counts.now c-loop.e (length c-args.counts.now) (omega arith))
 
 pub loop-e-preserved : goal.loop-e-preserved
 loop-e-preserved c = let c-args = c.args in
     let c-loop = c.loop-e in
-    (omega arith, omega (arith, start_next c-args.counts.now c-loop.e, c.size-sum.ensures.value, c-loop.invariant.1), filled_more (start c-args.counts.now) _ _ _ _ c-loop.invariant.2 c-loop.invariant.1)
+    (omega (arith, start_next c-args.counts.now c-loop.e, c-loop.invariant.0), filled_more (start c-args.counts.now) _ _ _ _ c-loop.invariant.1 c-loop.invariant.0)
 
 pub shape_of-starts : goal.shape_of-starts
 shape_of-starts c = let c-args = c.args in
-    ap length c.loop-e.invariant.2 ∙ length_filled (start c-args.counts.now) c.loop-e.e c-args.starts.now
+    ap length c.loop-e.invariant.1 ∙ length_filled (start c-args.counts.now) c.loop-e.e c-args.starts.now
 
 pub returns : goal.returns
 returns c = let c-args = c.args in
     let e : c.loop-e.e ≡ length c-args.counts.now = omega arith in
-    c.loop-e.invariant.2 ∙ ap (λ (x : ℕ). filled (start c-args.counts.now) x c-args.starts.now) e
+    c.loop-e.invariant.1 ∙ ap (λ (x : ℕ). filled (start c-args.counts.now) x c-args.starts.now) e
