@@ -4,25 +4,21 @@ ghost use Rattle.cell.specs.Of.{edges_of};
 ghost use Rattle.cell.specs.claims.Claims.{Rising};
 ghost use Rattle.cell.specs.work.Fits.{next_at, area_then, next_after, area_after};
 ghost use Rattle.cell.specs.work.Limits.{most_in_cell};
-ghost use Rattle.cell.specs.claims.Table.{table_cell};
+ghost use Rattle.cell.specs.work.Tables.{cell_in};
 ghost use Rattle.cell.specs.Triangles.{cell_triangles};
 ghost use Rattle.cell.specs.Words.{word_count};
 ghost use Rattle.direct.specs.work.Rows.{Ready};
 ghost use Rattle.direct.specs.work.Cells.{Came, longest_block};
 
-use super::{Reached, is_rising, kind_of, put_all};
-use cell::{Cell, WORD_COUNT};
-use slots::{MOST_EDGES, MOST_SLOTS};
+use super::{Reached, is_rising, plain_of, put_all};
+use cell::{Cell, Tables, WORD_COUNT};
 
 // Whether n triangles have room from index `at` on in an area of `room` words.
 pub(crate) fn fits(room: usize, at: usize, n: usize) -> bool
     requires { n ≤ most_in_cell }
     ensures { result ≡ leb (at + word_count * n) room }
 {
-    if room < at {
-        return false;
-    }
-    WORD_COUNT * n <= room - at
+    at <= room && WORD_COUNT * n <= room - at
 }
 
 // Writes the words of the n triangles of a level cell with d2 = 0 from index `at` on, where they have room there, and answers the next index.
@@ -45,63 +41,40 @@ fn put_fitting(
 
 // Writes the words of the triangles of the cells from c on, up to `end` or to a cell that is to be walked, from index `at` on, each cell's where they have
 // room from where the last left off.
-fn put_plain(
-    cells: &[u16],
-    counts: &[u16],
-    names: &[u16; MOST_SLOTS],
-    sides: &[u16; MOST_EDGES],
-    starts: &[u32],
-    c: usize,
-    end: usize,
-    area: &mut [u32],
-    at: usize,
-) -> Reached
-    ensures { Came (table_cell cells.now counts.now names.now sides.now starts.now) c end area.old at result.cell area.new result.at }
+fn put_plain(tables: Tables, c: usize, end: usize, area: &mut [u32], at: usize) -> Reached
+    ensures { Came (cell_in tables.entry) c end area.old at result.cell area.new result.at }
 {
     let mut i = at;
-    let mut k = c;
-    while k < end {
-        let six = cell::counts_at(counts, sides, k);
+    for k in c..end {
+        let six = cell::counts_at(tables.counts, tables.sides, k);
         if booking::crossings_in(six) == 0 {
-            k += 1;
             continue;
         }
-        let d = kind_of(six);
-        if !d.plain {
+        let Some(d) = plain_of(six) else {
             return Reached { cell: k, at: i };
-        }
-        let v = cell::cell_at(cells, counts, names, sides, starts, k);
+        };
+        let v = cell::cell_at(tables, k);
         let first = v.starts;
         if !is_rising(first) {
             return Reached { cell: k, at: i };
         }
         let own = d.own;
         i = put_fitting(v, six, own, d.triangles, area, i);
-        k += 1;
     }
-    Reached { cell: k, at: i }
+    Reached {
+        cell: c.max(end),
+        at: i,
+    }
 }
 
 // The same of the cells from c up to `end`, each walked, with arrays for each alone.
-fn put_singly(
-    cells: &[u16],
-    counts: &[u16],
-    names: &[u16; MOST_SLOTS],
-    sides: &[u16; MOST_EDGES],
-    starts: &[u32],
-    c: usize,
-    end: usize,
-    area: &mut [u32],
-    at: usize,
-) -> usize
-    ensures { (result ≡ next_after (table_cell cells.now counts.now names.now sides.now starts.now) c area.old at (end - c)) × (area.new ≡ area_after (table_cell cells.now counts.now names.now sides.now starts.now) c area.old at (end - c)) }
+fn put_singly(tables: Tables, c: usize, end: usize, area: &mut [u32], at: usize) -> usize
+    ensures { (result ≡ next_after (cell_in tables.entry) c area.old at (end - c)) × (area.new ≡ area_after (cell_in tables.entry) c area.old at (end - c)) }
 {
     let mut i = at;
-    let mut k = c;
-    while k < end {
-        let v = cell::cell_at(cells, counts, names, sides, starts, k);
+    for k in c..end {
+        let v = cell::cell_at(tables, k);
         i = cell::write_loops(v, 0, area, i);
-        k += 1;
     }
     i
 }
@@ -110,24 +83,14 @@ fn put_singly(
 const SHORTEST_BLOCK: usize = 8;
 
 // The same of a block of cells.
-fn put_block(
-    cells: &[u16],
-    counts: &[u16],
-    names: &[u16; MOST_SLOTS],
-    sides: &[u16; MOST_EDGES],
-    starts: &[u32],
-    c: usize,
-    end: usize,
-    area: &mut [u32],
-    at: usize,
-) -> usize
+fn put_block(tables: Tables, c: usize, end: usize, area: &mut [u32], at: usize) -> usize
     requires { c ≤ end }
-    ensures { (result ≡ next_after (table_cell cells.now counts.now names.now sides.now starts.now) c area.old at (end - c)) × (area.new ≡ area_after (table_cell cells.now counts.now names.now sides.now starts.now) c area.old at (end - c)) }
+    ensures { (result ≡ next_after (cell_in tables.entry) c area.old at (end - c)) × (area.new ≡ area_after (cell_in tables.entry) c area.old at (end - c)) }
 {
     if end - c < SHORTEST_BLOCK {
-        return put_singly(cells, counts, names, sides, starts, c, end, area, at);
+        return put_singly(tables, c, end, area, at);
     }
-    cell::write_cells(cells, counts, names, sides, starts, c, end, area, at)
+    cell::write_cells(tables, c, end, area, at)
 }
 
 const LONGEST_BLOCK: usize = 4096;
@@ -163,30 +126,21 @@ pub(crate) fn block_end(c: usize, b: usize, end: usize) -> usize
 
 // Writes the words of the triangles of the cells from c up to `end` from index `at` of the area on, cell after cell, each cell's where they have room from
 // where the last left off, and answers the next index. About 178 KB of stack.
-pub fn write_cells(
-    cells: &[u16],
-    counts: &[u16],
-    names: &[u16; MOST_SLOTS],
-    sides: &[u16; MOST_EDGES],
-    starts: &[u32],
-    c: usize,
-    end: usize,
-    area: &mut [u32],
-    at: usize,
-) -> usize
-    ensures { (result ≡ next_after (table_cell cells.now counts.now names.now sides.now starts.now) c area.old at (end - c)) × (area.new ≡ area_after (table_cell cells.now counts.now names.now sides.now starts.now) c area.old at (end - c)) }
+pub fn write_cells(tables: Tables, c: usize, end: usize, area: &mut [u32], at: usize) -> usize
+    ensures { (result ≡ next_after (cell_in tables.entry) c area.old at (end - c)) × (area.new ≡ area_after (cell_in tables.entry) c area.old at (end - c)) }
 {
     let mut i = at;
     let mut b: usize = 0;
     let mut k = c;
+    // Stays: a while, since the next cell is where the block ends.
     while k < end {
-        let p = put_plain(cells, counts, names, sides, starts, k, end, area, i);
+        let p = put_plain(tables, k, end, area, i);
         if end <= p.cell {
             return p.at;
         }
         b = next_block(b, p.cell - k);
         let e = block_end(p.cell, b, end);
-        i = put_block(cells, counts, names, sides, starts, p.cell, e, area, p.at);
+        i = put_block(tables, p.cell, e, area, p.at);
         k = e;
     }
     i

@@ -1,6 +1,6 @@
 // The triangles of a level cell whose edges are laid in any order, as in the parts of a split cell, written without a walk: all of them where d2 = 0, or those of
 // its corners alone.
-ghost use Rattle.std.specs.Prelude.{◌≡◌, true, false, [], ◌∷◌, ◌+◌, ◌*◌, ◌≤◌, ◌<◌, eqb, length};
+ghost use Rattle.std.specs.Prelude.{◌≡◌, true, false, IfSome, [], ◌∷◌, ◌+◌, ◌*◌, ◌≤◌, ◌<◌, eqb, length};
 ghost use Rattle.counting.specs.Pick.{pick};
 ghost use Rattle.counting.specs.work.Stored.{Stored};
 ghost use Rattle.counting.specs.Stored.{stored_in};
@@ -21,9 +21,8 @@ ghost use Rattle.direct.specs.work.Rows.{Listed, Round, Parting};
 ghost use Rattle.direct.specs.work.Laid.{ring_on, parting_on, quads_on, laid_on, length_asked, Laying, Laid, AtStart, SixEach, cell_of};
 
 use super::drawing::fits;
-use super::{Kind, joining_of, kind_of, left_of, own_of, put_fours, put_round, row_of, walked};
+use super::{joining_of, left_of, own_of, plain_of, put_fours, put_round, row_of};
 use cell::Cell;
-use counting::wide16;
 use slots::{high_end, low_end};
 
 // Whether edge j is laid before edge k.
@@ -33,10 +32,7 @@ fn is_before(c: Cell, k: usize, j: usize) -> bool
 {
     let a = c.starts[j];
     let b = c.starts[k];
-    if a == b {
-        return j < k;
-    }
-    a < b
+    a < b || (a == b && j < k)
 }
 
 // Whether one of two edges is, or of three.
@@ -44,20 +40,14 @@ fn passes(c: Cell, k: usize, i: usize, j: usize) -> bool
     requires { (k < 6) × (i < 6) × (j < 6) }
     ensures { result ≡ passed (ahead (edges_of c)) k (i ∷ j ∷ []) }
 {
-    if is_before(c, k, i) {
-        return true;
-    }
-    is_before(c, k, j)
+    is_before(c, k, i) || is_before(c, k, j)
 }
 
 fn passes_three(c: Cell, k: usize, h: usize, i: usize, j: usize) -> bool
     requires { (k < 6) × (h < 6) × (i < 6) × (j < 6) }
     ensures { result ≡ passed (ahead (edges_of c)) k (h ∷ i ∷ j ∷ []) }
 {
-    if is_before(c, k, h) {
-        return true;
-    }
-    passes(c, k, i, j)
+    is_before(c, k, h) || passes(c, k, i, j)
 }
 
 // Writes the triangles of the n loops round a that start on its edge k to b, where they start there: they have room from index `at` on. Answers the next
@@ -203,10 +193,11 @@ fn third_of(k: usize) -> u32
     requires { k < 6 }
     ensures { result ≡ third_position k (first_slot k) }
 {
-    if k == 0 {
-        return 2;
+    match k {
+        0 => 2,
+        1..=2 => 1,
+        _ => 0,
     }
-    if k < 3 { 1 } else { 0 }
 }
 
 // What stands on edge k.
@@ -238,14 +229,10 @@ fn laid_before(c: Cell, six: [u16; 6], k: usize) -> usize
     ensures { result ≡ base (edges_of c) k }
 {
     let mut n: usize = 0;
-    let mut j: usize = 0;
-    while j < 6 {
+    for j in 0..6 {
         if is_before(c, k, j) {
-            n += wide16(six[j]);
-            j += 1;
-            continue;
+            n += six[j] as usize;
         }
-        j += 1;
     }
     n
 }
@@ -255,10 +242,8 @@ fn firsts_of(c: Cell, six: [u16; 6]) -> [usize; 6]
     ensures { Firsts c result }
 {
     let mut f = [0usize; 6];
-    let mut k: usize = 0;
-    while k < 6 {
+    for k in 0..6 {
         f[k] = laid_before(c, six, k);
-        k += 1;
     }
     f
 }
@@ -268,18 +253,12 @@ fn edge_at(c: Cell, six: [u16; 6], firsts: [usize; 6], p: usize) -> usize
     requires { Listed c six × Firsts c firsts × AtStart c p }
     ensures { (result ≡ edge (edges_of c) p) × (result < 6) }
 {
-    let mut k: usize = 0;
-    while k < 5 {
-        if six[k] == 0 {
-            k += 1;
-            continue;
-        }
-        if firsts[k] == p {
+    for k in 0..5 {
+        if six[k] != 0 && firsts[k] == p {
             return k;
         }
-        k += 1;
     }
-    k
+    5
 }
 
 // Writes the words of the triangles that are asked for, all or those of the corners: they have room from index `at` on. Answers the next index.
@@ -299,42 +278,37 @@ fn put_laid(
     let firsts = firsts_of(c, six);
     let mut i = at;
     let mut p: usize = 0;
+    // Stays: a while, since the next place comes from the counts.
     while p < n {
         let k = edge_at(c, six, firsts, p);
         i = put_edge(c, six, own, quads, k, area, i);
-        p += wide16(six[k]);
+        p += six[k] as usize;
     }
     i
 }
 
-// The kind of a cell with these counts, of which the corner triangles alone are asked for, and of which all are or those of loops of one length.
-fn corners_kind(six: [u16; 6]) -> Kind
-    ensures { result.plain ≡ true → Laying (by_edge six) result.own false }
+// The corner triangles of a cell with these counts that is laid: one of which the corner triangles alone are asked for, and one of which all are or those of
+// loops of one length.
+fn corners_own(six: [u16; 6]) -> Option<[u32; 4]>
+    ensures { IfSome result (λ own. Laying (by_edge six) own false) }
 {
     if cell::is_level(six) {
-        let own = own_of(six);
-        return Kind {
-            plain: true,
-            own,
-            triangles: 0,
-        };
+        return Some(own_of(six));
     }
-    walked()
+    None
 }
 
 // The length of the loops of the corner triangles.
 const CORNER: usize = 3;
 
-fn asked_kind(six: [u16; 6], only: usize) -> Kind
-    ensures { result.plain ≡ true → Laying (by_edge six) result.own (eqb only 0) × (only ≡ length_asked (eqb only 0)) }
+fn asked_own(six: [u16; 6], only: usize) -> Option<[u32; 4]>
+    ensures { IfSome result (λ own. Laying (by_edge six) own (eqb only 0) × (only ≡ length_asked (eqb only 0))) }
 {
-    if only == 0 {
-        return kind_of(six);
+    match only {
+        0 => Some(plain_of(six)?.own),
+        CORNER => corners_own(six),
+        _ => None,
     }
-    if only == CORNER {
-        return corners_kind(six);
-    }
-    walked()
 }
 
 // One more than the greatest number that a start can have.
@@ -344,12 +318,10 @@ const START_LIMIT: u32 = 67108864;
 fn is_near(c: Cell) -> bool
     ensures { result ≡ true → Near c }
 {
-    let mut k: usize = 0;
-    while k < 6 {
+    for k in 0..6 {
         if START_LIMIT <= c.starts[k] {
             return false;
         }
-        k += 1;
     }
     true
 }
@@ -361,13 +333,9 @@ fn put_asked(c: Cell, only: usize, area: &mut [u32], at: usize) -> usize
     ensures { (result ≡ next_in area.old at (all_words (triangles_with (limited c) only))) × (area.new ≡ stored_in area.old at (all_words (triangles_with (limited c) only))) }
 {
     let six = cell::taken_of(c);
-    let d = asked_kind(six, only);
-    if d.plain {
-        if is_near(c) {
-            if fits(area.len(), at, booking::crossings_in(six)) {
-                let own = d.own;
-                return put_laid(c, six, own, only == 0, area, at);
-            }
+    if let Some(own) = asked_own(six, only) {
+        if is_near(c) && fits(area.len(), at, booking::crossings_in(six)) {
+            return put_laid(c, six, own, only == 0, area, at);
         }
     }
     cell::write_loops(c, only, area, at)

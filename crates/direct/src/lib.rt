@@ -1,7 +1,7 @@
 // The triangles of a level cell with d2 = 0, written without a walk.
 #![tactic(auto)]
 
-ghost use Rattle.std.specs.Prelude.{◌≡◌, ◌≢◌, true, false, not, ◌+◌, ◌-◌, ◌*◌, ◌/◌, ◌<◌, ◌≤◌, length, ltb};
+ghost use Rattle.std.specs.Prelude.{◌≡◌, ◌≢◌, true, not, IfSome, ◌+◌, ◌-◌, ◌*◌, ◌/◌, ◌<◌, ◌≤◌, length, ltb};
 ghost use Rattle.std.proofs.lemmas.List.Edits.{sets};
 ghost use Rattle.counting.specs.Pick.{pick};
 ghost use Rattle.counting.specs.Lists.{over, total};
@@ -17,7 +17,6 @@ ghost use Rattle.direct.specs.claims.Direct.{number_at, side, whole, half0, half
 ghost use Rattle.direct.specs.work.Rows.{in_row, Has, Long, Listed, Crosses, RowOf, Round, Parting, AreOwn, Ready, PlainNumbers, is_rising};
 
 use cell::{Cell, Corner, Side, Triangle, WORD_COUNT, sum_of};
-use counting::{greatest32, least32, minus32, wide32, word16};
 use words::put;
 
 mod drawing;
@@ -29,10 +28,9 @@ pub use drawing::write_cells;
 pub use laid::write_part;
 pub use placing::{count_fans, write_middles};
 
-// Of a cell: whether it is a level cell with d2 = 0; of such a cell the corner triangles at each node, and how many triangles there are.
+// Of a level cell with d2 = 0 the corner triangles at each node, and how many triangles there are.
 #[derive(Clone, Copy)]
-struct Kind {
-    plain: bool,
+struct PlainCell {
     own: [u32; 4],
     triangles: usize,
 }
@@ -56,12 +54,13 @@ pub(crate) fn joining_of(a: u32, b: u32) -> usize
     requires { (a < 4) × (b < 4) × (a ≢ b) }
     ensures { (result ≡ joining a b) × (result < 6) }
 {
-    let x = least32(a, b);
-    let y = greatest32(a, b) as usize;
-    if x == 0 {
-        return y - 1;
+    let x = a.min(b);
+    let y = a.max(b) as usize;
+    match x {
+        0 => y - 1,
+        1 => y + 1,
+        _ => 5,
     }
-    if x == 1 { y + 1 } else { 5 }
 }
 
 // The number of the k-th crossing from a on the edge ab.
@@ -74,7 +73,7 @@ fn number_at(c: Cell, six: [u16; 6], a: u32, b: u32, k: u32) -> u32
     if a < b {
         return c.starts[e] + k;
     }
-    c.starts[e] + (word16(six[e]) - 1 - k)
+    c.starts[e] + (six[e] as u32 - 1 - k)
 }
 
 // The row of the crossings from the k-th on, which is the next ones or those before.
@@ -84,10 +83,10 @@ pub(crate) fn row_of(c: Cell, six: [u16; 6], a: u32, b: u32, k: u32, up: bool) -
     ensures { RowOf c a b k up result }
 {
     let first = number_at(c, six, a, b, k);
-    if a < b {
-        return Row { first, falls: !up };
+    Row {
+        first,
+        falls: if a < b { !up } else { up },
     }
-    Row { first, falls: up }
 }
 
 // Number i of a row.
@@ -106,7 +105,7 @@ fn side_of(names: [u16; 4], s: usize, g: u32, h: u32) -> Side
     requires { s < 4 }
     ensures { result ≡ side names s g h }
 {
-    Side::Segment(word16(names[s]), least32(g, h))
+    Side::Segment(names[s] as u32, g.min(h))
 }
 
 // The triangle of a loop of three.
@@ -212,15 +211,13 @@ fn put_threes(
     ensures { Stored area.old at (all_words (over (λ i. three c (in_row x i) (in_row y i) (in_row z i) s0 s1 s2) n 0)) area.new result }
 {
     let mut j = at;
-    let mut i: u32 = 0;
-    while i < n {
+    for i in 0..n {
         let g0 = number_in(x, i);
         let g1 = number_in(y, i);
         let g2 = number_in(z, i);
         let t = whole_of(c, g0, g1, g2, s0, s1, s2);
         put(area, j, t);
         j += WORD_COUNT;
-        i += 1;
     }
     j
 }
@@ -246,15 +243,13 @@ pub(crate) fn put_fours(
     ensures { Stored area.old at (all_words (over (λ i. four c (in_row x i) (in_row y i) (in_row z i) (in_row u i) s0 s1 s2 s3) n 0)) area.new result }
 {
     let mut j = at;
-    let mut i: u32 = 0;
-    while i < n {
+    for i in 0..n {
         let g0 = number_in(x, i);
         let g1 = number_in(y, i);
         let g2 = number_in(z, i);
         let g3 = number_in(u, i);
         put_four(c, g0, g1, g2, g3, s0, s1, s2, s3, area, j);
         j += 2 * WORD_COUNT;
-        i += 1;
     }
     j
 }
@@ -403,7 +398,7 @@ fn put_rounds(
 fn own_at(most: u32, x: u16, y: u16, z: u16) -> u32
     ensures { result ≡ (x + y + z - most) / 2 }
 {
-    minus32(word16(x) + word16(y) + word16(z), most) / 2
+    (x as u32 + y as u32 + z as u32).saturating_sub(most) / 2
 }
 
 // The corner triangles at each node of a cell with these counts, in which only rule 1 is met.
@@ -414,7 +409,7 @@ pub(crate) fn own_of(six: [u16; 6]) -> [u32; 4]
     let x = sum_of(six[0], six[5]);
     let y = sum_of(six[1], six[4]);
     let z = sum_of(six[2], six[3]);
-    let most = greatest32(greatest32(x, y), z);
+    let most = x.max(y).max(z);
     [
         own_at(most, six[0], six[1], six[2]),
         own_at(most, six[0], six[3], six[4]),
@@ -427,7 +422,7 @@ pub(crate) fn own_of(six: [u16; 6]) -> [u32; 4]
 pub(crate) fn left_of(n: u16, a: u32, b: u32) -> u32
     ensures { result ≡ n - a - b }
 {
-    minus32(minus32(word16(n), a), b)
+    (n as u32).saturating_sub(a).saturating_sub(b)
 }
 
 // The quads on 01: they part 0 from 1, with 2 on the side of 0 or with 3.
@@ -486,12 +481,10 @@ pub(crate) fn put_all(c: Cell, six: [u16; 6], own: [u32; 4], area: &mut [u32], a
 pub(crate) fn is_rising(starts: [u32; 6]) -> bool
     ensures { result ≡ is_rising (by_edge starts) }
 {
-    let mut k: usize = 0;
-    while k < 5 {
+    for k in 0..5 {
         if starts[k + 1] < starts[k] {
             return false;
         }
-        k += 1;
     }
     true
 }
@@ -500,52 +493,38 @@ pub(crate) fn is_rising(starts: [u32; 6]) -> bool
 fn median_of(x: u32, y: u32, z: u32) -> u32
     ensures { result ≡ median x y z }
 {
-    greatest32(least32(x, y), least32(greatest32(x, y), z))
+    x.min(y).max(x.max(y).min(z))
 }
 
 // How many triangles there are, by the corner triangles at the nodes and d1 of a cell with d2 = 0.
 fn all_of(own: [u32; 4], d1: u32) -> usize
     ensures { result ≡ total (by_edge own) 4 0 + 2 * d1 }
 {
-    wide32(own[0]) + wide32(own[1]) + wide32(own[2]) + wide32(own[3]) + 2 * wide32(d1)
+    own[0] as usize + own[1] as usize + own[2] as usize + own[3] as usize + 2 * d1 as usize
 }
 
-pub(crate) fn walked() -> Kind
-    ensures { result.plain ≡ false }
-{
-    Kind {
-        plain: false,
-        own: [0, 0, 0, 0],
-        triangles: 0,
-    }
-}
-
-// The kind of a level cell with these counts.
-fn level_kind(six: [u16; 6]) -> Kind
+// The numbers of a level cell with these counts, where its d2 is 0.
+fn level_plain(six: [u16; 6]) -> Option<PlainCell>
     requires { is_level_cell (by_edge six) ≡ true }
-    ensures { result.plain ≡ true → PlainNumbers (by_edge six) result.own result.triangles }
+    ensures { IfSome result (λ p. PlainNumbers (by_edge six) p.own p.triangles) }
 {
     let own = own_of(six);
     let x = left_of(six[0], own[0], own[1]);
     let y = left_of(six[1], own[0], own[2]);
     let z = left_of(six[2], own[0], own[3]);
-    if least32(least32(x, y), z) != 0 {
-        return walked();
+    if x.min(y).min(z) != 0 {
+        return None;
     }
     let triangles = all_of(own, median_of(x, y, z));
-    Kind {
-        plain: true,
-        own,
-        triangles,
-    }
+    Some(PlainCell { own, triangles })
 }
 
-// The kind of a cell with these counts.
-pub(crate) fn kind_of(six: [u16; 6]) -> Kind
-    ensures { result.plain ≡ true → PlainNumbers (by_edge six) result.own result.triangles }
+// The numbers of a cell with these counts, where it is a level cell with d2 = 0.
+pub(crate) fn plain_of(six: [u16; 6]) -> Option<PlainCell>
+    ensures { IfSome result (λ p. PlainNumbers (by_edge six) p.own p.triangles) }
 {
     if cell::is_level(six) {
-        return level_kind(six);
+        return level_plain(six);
     }
-    walked()
+    None
 }

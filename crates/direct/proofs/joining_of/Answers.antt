@@ -1,11 +1,12 @@
+use native.Mathlib.Omega.{arith}
 use Rattle.direct.proofs.Numbers.{joined_first, joined_then, joined_last}
 use Rattle.direct.proofs.joining_of.Goals as goal
 
-pub returns-then-x-eq0 : goal.returns-then-x-eq0
-returns-then-x-eq0 c = joined_first c.requires.0 c.requires.1 c.requires.2 c.least32-x.ensures c.greatest32-y.ensures c.if-x-eq0.true
+pub returns-in-0 : goal.returns-in-0
+returns-in-0 c = joined_first c.requires.0 c.requires.1 c.requires.2 c.min-x.ensures c.max-y.ensures c.in-0.is
 
-pub returns-then-x-eq1 : goal.returns-then-x-eq1
-returns-then-x-eq1 c = joined_then c.requires.0 c.requires.1 c.requires.2 c.least32-x.ensures c.greatest32-y.ensures (λ e. c.if-x-eq0.false e) c.if-x-eq1.true
+pub returns-in-1 : goal.returns-in-1
+returns-in-1 c = joined_then c.requires.0 c.requires.1 c.requires.2 c.min-x.ensures c.max-y.ensures (omega (arith, c.in-1.is)) c.in-1.is
 
-pub returns-else-x-eq1 : goal.returns-else-x-eq1
-returns-else-x-eq1 c = joined_last c.requires.0 c.requires.1 c.requires.2 c.least32-x.ensures c.greatest32-y.ensures (λ e. c.if-x-eq0.false e) (λ e. c.if-x-eq1.false e)
+pub returns-in_default : goal.returns-in_default
+returns-in_default c = joined_last c.requires.0 c.requires.1 c.requires.2 c.min-x.ensures c.max-y.ensures (omega arith) (omega arith)

@@ -4,4 +4,4 @@ use Rattle.direct.proofs.median_of.Goals as goal
 
 pub returns : goal.returns
 unfolding median
-returns c = c.greatest32-2.ensures ∙ rw (c.least32.ensures, c.least32-2.ensures, c.greatest32.ensures) refl
+returns c = c.max-2.ensures ∙ rw (c.min.ensures, c.min-2.ensures, c.max.ensures) refl

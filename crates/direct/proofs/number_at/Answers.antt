@@ -1,4 +1,5 @@
 use Rattle.direct.proofs.Numbers.{up_fits, up_is, down_room, down_fits, down_is}
+use mathlib.Core.Path.{refl}
 use native.Mathlib.Omega.{arith}
 use Rattle.direct.proofs.number_at.Goals as goal
 
@@ -9,13 +10,13 @@ pub returns-then-a-b : goal.returns-then-a-b
 returns-then-a-b c = up_is c.requires.listed c.requires.crosses c.joining_of-e.ensures c.if-a-b.true
 
 pub overflow_sub-result : goal.overflow_sub-result
-overflow_sub-result c = omega (arith, down_room c.requires.listed c.requires.crosses c.joining_of-e.ensures c.word16.ensures.0)
+overflow_sub-result c = omega (arith, down_room c.requires.listed c.requires.crosses c.joining_of-e.ensures refl)
 
 pub overflow_sub-result-2 : goal.overflow_sub-result-2
-overflow_sub-result-2 c = omega (arith, down_room c.requires.listed c.requires.crosses c.joining_of-e.ensures c.word16.ensures.0)
+overflow_sub-result-2 c = omega (arith, down_room c.requires.listed c.requires.crosses c.joining_of-e.ensures refl)
 
 pub overflow_add-result-2 : goal.overflow_add-result-2
-overflow_add-result-2 c = omega (arith, down_fits c.requires.listed c.requires.crosses c.joining_of-e.ensures c.word16.ensures.0)
+overflow_add-result-2 c = omega (arith, down_fits c.requires.listed c.requires.crosses c.joining_of-e.ensures refl)
 
 pub returns : goal.returns
-returns c = down_is c.requires.listed c.requires.crosses c.joining_of-e.ensures c.word16.ensures.0 (omega (arith, c.if-a-b.false))
+returns c = down_is c.requires.listed c.requires.crosses c.joining_of-e.ensures refl (omega (arith, c.if-a-b.false))

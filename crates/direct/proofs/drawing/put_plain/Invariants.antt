@@ -1,10 +1,7 @@
 use Prim.Native.Nat.{◌-◌, ◌≤◌}
-use Rattle.cell.specs.claims.Table.{table_cell}
+use Rattle.cell.specs.work.Tables.{cell_in}
 use Rattle.cell.proofs.Fits.{Put}
 use Rattle.direct.proofs.drawing.put_plain.Given as goal
 
 abbrev pub invariant-loop-k : goal.invariant-loop-k
-invariant-loop-k l = ((l.c ≤ l.k) × (l.k - l.c ≤ l.end - l.c)) × Put (table_cell l.cells l.counts l.names l.sides l.starts) l.c l.initial.area l.at (l.k - l.c) l.area l.i
-
-abbrev pub decreases-loop-k : goal.decreases-loop-k
-decreases-loop-k l = l.end - l.k
+invariant-loop-k l = (l.k - l.c ≤ l.end - l.c) × Put (cell_in l.tables) l.c l.initial.area l.at (l.k - l.c) l.area l.i

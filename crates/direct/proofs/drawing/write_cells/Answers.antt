@@ -2,7 +2,7 @@ use Prim.Native.Nat.{◌-◌}
 use mathlib.Core.Path.{◌≡◌, ap, ◌∙◌}
 use native.Mathlib.Omega.{arith}
 use Rattle.cell.specs.work.Fits.{next_after, area_after}
-use Rattle.cell.specs.claims.Table.{table_cell}
+use Rattle.cell.specs.work.Tables.{cell_in}
 use Rattle.cell.proofs.Fits.{put_none}
 use Rattle.direct.proofs.Cells.{came_on, put_block}
 use Rattle.direct.proofs.drawing.write_cells.Goals as goal
@@ -10,19 +10,16 @@ use Rattle.direct.proofs.drawing.write_cells.Goals as goal
 pub loop-k-init : goal.loop-k-init
 loop-k-init c = ((omega arith, omega arith), omega arith, put_none _ _ _ _)
 
-pub put_plain-p-requires : goal.put_plain-p-requires
-put_plain-p-requires c = tt
-
 pub shape_of-area-then-end-p : goal.shape_of-area-then-end-p
 shape_of-area-then-end-p c = let A = c.args in
     let L = c.loop-k in
-    (came_on (table_cell A.cells.now A.counts.now A.names.now A.sides.now A.starts.now) A.c A.area.now A.at L.invariant.0.0 L.invariant.2 c.put_plain-p.ensures).long
+    (came_on (cell_in A.tables) A.c A.area.now A.at L.invariant.0.0 L.invariant.2 c.put_plain-p.ensures).long
 
 pub returns-then-end-p : goal.returns-then-end-p
 returns-then-end-p c = let A = c.args in
     let L = c.loop-k in
     let C = c.put_plain-p.ensures in
-    let t = table_cell A.cells.now A.counts.now A.names.now A.sides.now A.starts.now in
+    let t = cell_in A.tables in
     let P = came_on t A.c A.area.now A.at L.invariant.0.0 L.invariant.2 C in
     let e : c.put_plain-p.result.cell - A.c ≡ A.end - A.c = omega (arith, L.invariant.0, C.from, C.upto) in
     (P.next ∙ ap (next_after t A.c A.area.now A.at) e, P.area ∙ ap (area_after t A.c A.area.now A.at) e)
@@ -48,7 +45,7 @@ loop-k-preserved c = let A = c.args in
     let C = c.put_plain-p.ensures in
     let E = c.block_end-e.ensures in
     let w = c.put_block-i.ensures in
-    let t = table_cell A.cells.now A.counts.now A.names.now A.sides.now A.starts.now in
+    let t = cell_in A.tables in
     let P = came_on t A.c A.area.now A.at L.invariant.0.0 L.invariant.2 C in
     ((omega (arith, L.invariant.0, C.from, E), omega (arith, E)), c.next_block-b.ensures.1, put_block t A.c A.area.now A.at (omega (arith, L.invariant.0, C.from)) (omega (arith, E)) P w.0 w.1)
 
@@ -58,5 +55,5 @@ shape_of-area c = c.loop-k.invariant.2.long
 pub returns : goal.returns
 returns c = let A = c.args in
     let I = c.loop-k.invariant in
-    let t = table_cell A.cells.now A.counts.now A.names.now A.sides.now A.starts.now in
+    let t = cell_in A.tables in
     (I.2.next ∙ ap (next_after t A.c A.area.now A.at) (omega (arith, I.0)), I.2.area ∙ ap (area_after t A.c A.area.now A.at) (omega (arith, I.0)))

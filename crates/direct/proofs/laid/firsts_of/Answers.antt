@@ -7,16 +7,16 @@ use Rattle.cell.proofs.Route.{stored}
 use Rattle.direct.proofs.laid.firsts_of.Goals as goal
 
 pub loop-k-init : goal.loop-k-init
-loop-k-init c = (omega arith, refl, λ i l. absurd (omega arith))
+loop-k-init c = (refl, λ i l. absurd (omega arith))
 
 pub laid_before-requires : goal.laid_before-requires
 laid_before-requires c = (c.requires, omega arith)
 
 pub bounds-f-k : goal.bounds-f-k
-bounds-f-k c = omega (arith, c.loop-k.invariant.1)
+bounds-f-k c = omega (arith, c.loop-k.invariant.0)
 
 pub loop-k-preserved : goal.loop-k-preserved
-loop-k-preserved c = (omega arith, simp length-set c.loop-k.invariant.1, stored (base (edges_of c.args.c)) c.loop-k.f c.loop-k.k c.laid_before.result (omega (arith, c.loop-k.invariant.1)) c.loop-k.invariant.2 c.laid_before.ensures)
+loop-k-preserved c = (simp length-set c.loop-k.invariant.0, stored (base (edges_of c.args.c)) c.loop-k.f c.loop-k.k c.laid_before.result (omega (arith, c.loop-k.invariant.0)) c.loop-k.invariant.1 c.laid_before.ensures)
 
 pub returns : goal.returns
-returns c = λ k l. c.loop-k.invariant.2 k (omega arith)
+returns c = λ k l. c.loop-k.invariant.1 k (omega arith)

@@ -1,4 +1,4 @@
-use Prim.Native.Nat.{ℕ, ◌-◌, ◌≤◌, ◌<◌}
+use Prim.Native.Nat.{ℕ, ◌<◌}
 use mathlib.Core.Path.{◌≡◌}
 use lib.ListN.{length, get_or}
 use Rattle.cell.specs.Cell.{base}
@@ -6,7 +6,4 @@ use Rattle.cell.specs.Of.{edges_of}
 use Rattle.direct.proofs.laid.firsts_of.Given as goal
 
 abbrev pub invariant-loop-k : goal.invariant-loop-k
-invariant-loop-k l = (l.k ≤ 6) × (length l.f ≡ 6) × ((i : ℕ) → i < l.k → get_or l.f i 0 ≡ base (edges_of l.c) i)
-
-abbrev pub decreases-loop-k : goal.decreases-loop-k
-decreases-loop-k l = 6 - l.k
+invariant-loop-k l = (length l.f ≡ 6) × ((i : ℕ) → i < l.k → get_or l.f i 0 ≡ base (edges_of l.c) i)

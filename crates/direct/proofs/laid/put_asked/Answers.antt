@@ -9,7 +9,7 @@ pub put_laid-requires : goal.put_laid-requires
 put_laid-requires c = let A = c.args in
     let S = c.requires in
     let e = c.taken_of-six.ensures in
-    let K = c.asked_kind-d.ensures c.if-d.true in
+    let K = c.in-Some.ensures in
     let N = c.is_near.ensures c.if-is_near.true in
     let h = sym c.fits.ensures ∙ c.if-fits.true in
     record { laid = part_laid A.c e S.starts_six S.counts_six N K; quads_in_bounds = part_room A.c e S.starts_six S.counts_six N K A.area.now A.at c.crossings_in.ensures.0 h }
@@ -18,7 +18,7 @@ pub returns-then-fits : goal.returns-then-fits
 returns-then-fits c = let A = c.args in
     let S = c.requires in
     let e = c.taken_of-six.ensures in
-    let K = c.asked_kind-d.ensures c.if-d.true in
+    let K = c.in-Some.ensures in
     let N = c.is_near.ensures c.if-is_near.true in
     let h = sym c.fits.ensures ∙ c.if-fits.true in
     part_stored A.c e S.starts_six S.counts_six N K A.area.now A.at c.crossings_in.ensures.0 h c.put_laid.ensures

@@ -1,4 +1,3 @@
-use mathlib.Core.Path.{◌∙◌}
 use native.Mathlib.Omega.{arith}
 use Rattle.counting.proofs.Stored.{stored_long}
 use Rattle.direct.proofs.Numbers.{count_is}
@@ -25,18 +24,18 @@ pub bounds-six-k : goal.bounds-six-k
 bounds-six-k c = omega (arith, c.edge_at-k.ensures.1)
 
 pub overflow_add-p : goal.overflow_add-p
-overflow_add-p c = omega (arith, c.wide16-p.ensures.1, c.loop-p-test, c.crossings_in-n.ensures.1)
+overflow_add-p c = omega (arith, c.loop-p-test, c.crossings_in-n.ensures.1)
 
 pub loop-p-smaller : goal.loop-p-smaller
 loop-p-smaller c = let P = c.requires in
     let E = c.edge_at-k.ensures in
-    omega (arith, c.loop-p-test, c.wide16-p.ensures.0, count_is P.laid.listed _ E.1, some_on _ _ _ _ c.loop-p.invariant (omega (arith, c.loop-p-test, crossings_are P.laid.listed c.crossings_in-n.ensures.0)) E.0)
+    omega (arith, c.loop-p-test, count_is P.laid.listed _ E.1, some_on _ _ _ _ c.loop-p.invariant (omega (arith, c.loop-p-test, crossings_are P.laid.listed c.crossings_in-n.ensures.0)) E.0)
 
 pub loop-p-preserved : goal.loop-p-preserved
 loop-p-preserved c = let P = c.requires in
     let E = c.edge_at-k.ensures in
     reached_more _ _ _ _ c.loop-p.invariant (omega (arith, c.loop-p-test, crossings_are P.laid.listed c.crossings_in-n.ensures.0)) E.0 P.laid.laying.level P.laid.laying.none
-    (c.wide16-p.ensures.0 ∙ count_is P.laid.listed _ E.1) c.put_edge-i.ensures
+    (count_is P.laid.listed _ E.1) c.put_edge-i.ensures
 
 pub shape_of-area : goal.shape_of-area
 shape_of-area c = stored_long c.loop-p.invariant.stored

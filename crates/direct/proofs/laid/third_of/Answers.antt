@@ -2,11 +2,11 @@ use native.Mathlib.Omega.{arith}
 use Rattle.direct.proofs.Laying.{third_first, third_low, third_high}
 use Rattle.direct.proofs.laid.third_of.Goals as goal
 
-pub returns-then-k-eq0 : goal.returns-then-k-eq0
-returns-then-k-eq0 c = third_first _ c.if-k-eq0.true
+pub returns-in-0 : goal.returns-in-0
+returns-in-0 c = third_first _ c.in-0.is
 
-pub returns-then-k-lt3 : goal.returns-then-k-lt3
-returns-then-k-lt3 c = third_low _ (λ e. c.if-k-eq0.false e) c.if-k-lt3.true
+pub returns-in-1-to-2 : goal.returns-in-1-to-2
+returns-in-1-to-2 c = third_low _ (omega arith) (omega arith)
 
-pub returns-else-k-lt3 : goal.returns-else-k-lt3
-returns-else-k-lt3 c = third_high _ c.requires (omega arith)
+pub returns-in_default : goal.returns-in_default
+returns-in_default c = third_high _ c.requires (omega arith)
