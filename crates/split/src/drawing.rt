@@ -7,9 +7,9 @@ ghost use Rattle.cell.specs.Words.{word_count, all_words};
 ghost use Rattle.cell.specs.claims.Table.{drawn_cells, table_cell};
 ghost use Rattle.split.specs.Parts.{drawn_triangles};
 ghost use Rattle.split.specs.work.Table.{most_drawn, table_drawn, table_splits};
-ghost use Rattle.split.specs.work.Gains.{AreSums, IsStretch, loop_words, splits_at};
+ghost use Rattle.split.specs.work.Gains.{AreSums, IsNext, loop_words, splits_at};
 
-use super::{CellSums, DrawnSums, Stretch, put_cell};
+use super::{CellSums, DrawnSums, SplitCell, put_cell};
 use cell::WORD_COUNT;
 use slots::{MOST_EDGES, MOST_SLOTS};
 
@@ -35,35 +35,40 @@ pub fn sums_of(cells: &[u16], counts: &[u16], sides: &[u16; MOST_EDGES]) -> Cell
     }
 }
 
-// The stretch of cells from c on, below n.
-pub(crate) fn stretch_from(counts: &[u16], sides: &[u16; MOST_EDGES], c: usize, n: usize) -> Stretch
+// The next cell that is split, from cell c on and below n.
+pub(crate) fn split_from(
+    counts: &[u16],
+    sides: &[u16; MOST_EDGES],
+    c: usize,
+    n: usize,
+) -> Option<SplitCell>
     requires { c ≤ n }
-    ensures { IsStretch counts.now sides.now c n result.end result.splits }
+    ensures { IsNext counts.now sides.now c n result }
 {
     for e in c..n {
         let splits = booking::gain_of(cell::counts_at(counts, sides, e)).splits;
         if splits != 0 {
-            return Stretch { end: e, splits };
+            return Some(SplitCell { index: e, splits });
         }
     }
-    Stretch { end: n, splits: 0 }
+    None
 }
 
 // The same where n cells make so many splits, and at once where they make none.
-fn next_stretch(
+fn next_split(
     counts: &[u16],
     sides: &[u16; MOST_EDGES],
     c: usize,
     n: usize,
     splits: u64,
-) -> Stretch
+) -> Option<SplitCell>
     requires { (c ≤ n) × (splits ≡ total (splits_at counts.now sides.now) n 0) }
-    ensures { IsStretch counts.now sides.now c n result.end result.splits }
+    ensures { IsNext counts.now sides.now c n result }
 {
     if splits == 0 {
-        return Stretch { end: n, splits: 0 };
+        return None;
     }
-    stretch_from(counts, sides, c, n)
+    split_from(counts, sides, c, n)
 }
 
 // Writes the words of what is drawn of cell c, in which so many splits are made: they have room from index `at` on. Answers the next index.
@@ -86,7 +91,7 @@ fn put_at(
     put_cell(v, splits, area, at)
 }
 
-// Writes the words of the triangles of the loops of the cells of a stretch from cell c on: they have room from index `at` on. Answers the next index.
+// Writes the words of the triangles of the loops of the cells from c up to `end`: they have room from index `at` on. Answers the next index.
 fn put_stretch(
     cells: &[u16],
     counts: &[u16],
@@ -94,14 +99,14 @@ fn put_stretch(
     sides: &[u16; MOST_EDGES],
     starts: &[u32],
     c: usize,
-    s: Stretch,
+    end: usize,
     area: &mut [u32],
     at: usize,
 ) -> usize
-    requires { at + length (loop_words cells.now counts.now names.now sides.now starts.now c (s.end - c)) ≤ length area.old }
-    ensures { Stored area.old at (loop_words cells.now counts.now names.now sides.now starts.now c (s.end - c)) area.new result }
+    requires { at + length (loop_words cells.now counts.now names.now sides.now starts.now c (end - c)) ≤ length area.old }
+    ensures { Stored area.old at (loop_words cells.now counts.now names.now sides.now starts.now c (end - c)) area.new result }
 {
-    direct::write_cells(cells, counts, names, sides, starts, c, s.end, area, at)
+    direct::write_cells(cells, counts, names, sides, starts, c, end, area, at)
 }
 
 // Writes the words of what is drawn of all cells, which have room in the area, from its front on, and answers the next index. The cells make so many splits.
@@ -121,18 +126,14 @@ fn put_cells(
     let n = cell::drawn(cells);
     let mut i: usize = 0;
     let mut c: usize = 0;
-    while c < n {
-        let s = next_stretch(counts, sides, c, n, splits);
-        i = put_stretch(cells, counts, names, sides, starts, c, s, area, i);
-        if s.splits == 0 {
-            return i;
-        }
+    while let Some(s) = next_split(counts, sides, c, n, splits) {
+        i = put_stretch(cells, counts, names, sides, starts, c, s.index, area, i);
         i = put_at(
-            cells, counts, names, sides, starts, s.end, s.splits, area, i,
+            cells, counts, names, sides, starts, s.index, s.splits, area, i,
         );
-        c = s.end + 1;
+        c = s.index + 1;
     }
-    i
+    put_stretch(cells, counts, names, sides, starts, c, n, area, i)
 }
 
 // Writes the words of the triangles that are drawn of all cells, which have room in the area and make so many splits, from its front on, and answers how many

@@ -65,10 +65,10 @@ pub struct Extra {
     pub fans: u64,
 }
 
-// Cells that are not split, up to the cell `end`, and the splits that are made in that: none where there is no cell more.
+// A cell that is split, by its number, and how many splits are made in it.
 #[derive(Clone, Copy)]
-struct Stretch {
-    end: usize,
+struct SplitCell {
+    index: usize,
     splits: u32,
 }
 

@@ -10,9 +10,9 @@ ghost use Rattle.split.specs.work.Gains.{splits_at};
 ghost use Rattle.split.specs.work.Working.{Drawable};
 ghost use Rattle.split.specs.work.Spots.{AreSpots, AreExtra, points_stored, cells_stored, inner_at_cell, middles_at_cell};
 
-use super::drawing::stretch_from;
+use super::drawing::split_from;
 use super::placing::{centres_in, inner_in};
-use super::{Extra, Numbering, PointSums, Spiral, Stretch};
+use super::{Extra, Numbering, PointSums, Spiral};
 use cell::Cell;
 use place::Place;
 use slots::{MOST_EDGES, MOST_SLOTS};
@@ -152,7 +152,7 @@ fn middles_at(
     put_middles(v, splits, nodes, area, i)
 }
 
-// As `direct::write_middles`: the middles of the fans of the loops of the cells of a stretch from cell c on.
+// As `direct::write_middles`: the middles of the fans of the loops of the cells from c up to `end`.
 fn middles_stretch(
     cells: &[u16],
     counts: &[u16],
@@ -160,16 +160,14 @@ fn middles_stretch(
     sides: &[u16; MOST_EDGES],
     starts: &[u32],
     c: usize,
-    s: Stretch,
+    end: usize,
     nodes: &[f64],
     area: &mut [f64],
     at: usize,
 ) -> usize
-    ensures { (area.new, result) ≡ middles_written cells.now counts.now names.now sides.now starts.now nodes.now c area.old at (s.end - c) }
+    ensures { (area.new, result) ≡ middles_written cells.now counts.now names.now sides.now starts.now nodes.now c area.old at (end - c) }
 {
-    direct::write_middles(
-        cells, counts, names, sides, starts, c, s.end, nodes, area, at,
-    )
+    direct::write_middles(cells, counts, names, sides, starts, c, end, nodes, area, at)
 }
 
 // Writes the places of the inner crossings of all cells, cell by cell, from point `at` of the area on, and answers the next point. Of a cell whose inner
@@ -214,16 +212,14 @@ pub fn write_drawn_middles(
     let n = cell::drawn(cells);
     let mut i = at;
     let mut c: usize = 0;
-    while c < n {
-        let s = stretch_from(counts, sides, c, n);
-        i = middles_stretch(cells, counts, names, sides, starts, c, s, nodes, area, i);
-        if s.splits == 0 {
-            return i;
-        }
-        i = middles_at(
-            cells, counts, names, sides, starts, s.end, s.splits, nodes, area, i,
+    while let Some(s) = split_from(counts, sides, c, n) {
+        i = middles_stretch(
+            cells, counts, names, sides, starts, c, s.index, nodes, area, i,
         );
-        c = s.end + 1;
+        i = middles_at(
+            cells, counts, names, sides, starts, s.index, s.splits, nodes, area, i,
+        );
+        c = s.index + 1;
     }
-    i
+    middles_stretch(cells, counts, names, sides, starts, c, n, nodes, area, i)
 }

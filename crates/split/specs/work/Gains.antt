@@ -1,5 +1,5 @@
 -- What the splits of the cells of a grid's tables come to.
-use Rattle.std.specs.Prelude.{ℕ, ◌*◌, ◌≤◌, ◌<◌, ◌≡◌, List}
+use Rattle.std.specs.Prelude.{ℕ, ◌*◌, ◌≤◌, ◌<◌, ◌≡◌, List, Option, None, Some}
 use Rattle.counting.specs.Lists.{total, over}
 use Rattle.slots.specs.Limits.{most_count, most_cells}
 use Rattle.cell.specs.Level.{by_edge}
@@ -8,6 +8,7 @@ use Rattle.cell.specs.Triangles.{cell_triangles}
 use Rattle.cell.specs.claims.Table.{table_cell, taken_counts}
 use Rattle.cell.specs.work.Table.{table_crossings, most_triangles}
 use Rattle.booking.specs.claims.Booking.{splits_in, more_in}
+use Rattle.split.specs.declared.SplitCell.{SplitCell}
 use Rattle.split.specs.work.Table.{most_more}
 
 -- the words of the triangles of the loops of n cells of the tables, from cell c on
@@ -29,6 +30,11 @@ module _ (counts sides : List ℕ) where
     pub none : (k : ℕ) → c ≤ k → k < e → splits_at k ≡ 0
     pub last : splits ≡ 0 → e ≡ n
     pub after : 0 < splits → (e < n) × (splits ≡ splits_at e)
+
+  -- s is the next cell from c on, below n, that is split, or there is none
+  abbrev pub IsNext : (c n : ℕ) → Option SplitCell → Type 0
+  IsNext c n None = IsStretch c n n 0
+  IsNext c n (Some s) = (0 < s.splits) × IsStretch c n s.index s.splits
 
   -- of n cells, with their crossings
   pub record AreSums (n crossings splits more : ℕ) : Type 0 where

@@ -3,8 +3,8 @@ use mathlib.Core.Path.{◌≡◌}
 use Rattle.split.specs.work.Spots.{cells_stored, middles_at_cell}
 use Rattle.split.proofs.spots.write_drawn_middles.Given as goal
 
-abbrev pub invariant-loop-c : goal.invariant-loop-c
-invariant-loop-c l = (l.c ≤ l.n) × ((l.area, l.i) ≡ cells_stored (middles_at_cell l.cells l.counts l.names l.sides l.starts l.nodes) l.initial.area l.at l.c)
+abbrev pub invariant-loop-s : goal.invariant-loop-s
+invariant-loop-s l = (l.c ≤ l.n) × ((l.area, l.i) ≡ cells_stored (middles_at_cell l.cells l.counts l.names l.sides l.starts l.nodes) l.initial.area l.at l.c)
 
-abbrev pub decreases-loop-c : goal.decreases-loop-c
-decreases-loop-c l = l.n - l.c
+abbrev pub decreases-loop-s : goal.decreases-loop-s
+decreases-loop-s l = l.n - l.c

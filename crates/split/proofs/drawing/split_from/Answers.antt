@@ -1,23 +1,23 @@
-use mathlib.Core.Path.{refl}
 use native.Mathlib.Omega.{arith}
 use Rattle.split.proofs.Few.{gain_at}
 use Rattle.split.proofs.Tables.{none_more}
-use Rattle.split.proofs.drawing.stretch_from.Goals as goal
+use Rattle.split.proofs.drawing.split_from.Goals as goal
 
 pub loop-e-init : goal.loop-e-init
 loop-e-init c = λ k a b. absurd (omega arith)
 
 pub returns-then-splits-ne0 : goal.returns-then-splits-ne0
 returns-then-splits-ne0 c = let A = c.args in
-    let I = c.loop-e.invariant in
-    let g = gain_at A.counts.now A.sides.now c.loop-e.e c.counts_at.ensures c.gain_of-splits.ensures in
-    record {
-      from = omega arith;
-      within = omega arith;
-      none = I;
-      last = λ z. absurd (omega (arith, z, c.if-splits-ne0.true));
-      after = λ h. (omega arith, g.0);
-    }
+    let g = gain_at A.counts.now A.sides.now c.loop-e.e c.counts_at.ensures c.gain_of-splits.ensures in (
+      omega arith,
+      record {
+        from = omega arith;
+        within = omega arith;
+        none = c.loop-e.invariant;
+        last = λ z. absurd (omega arith);
+        after = λ h. (omega arith, g.0);
+      },
+    )
 
 pub loop-e-preserved : goal.loop-e-preserved
 loop-e-preserved c = let A = c.args in
@@ -26,11 +26,11 @@ loop-e-preserved c = let A = c.args in
     none_more A.counts.now A.sides.now I (omega (arith, g.0, c.if-splits-ne0.false))
 
 pub returns : goal.returns
-returns c = let I = c.loop-e.invariant in
+returns c =
     record {
       from = c.requires;
       within = omega arith;
-      none = λ k a b. I k a (omega arith);
-      last = λ _. refl;
+      none = λ k a b. c.loop-e.invariant k a (omega arith);
+      last = λ _. omega arith;
       after = λ h. absurd (omega arith);
     }

@@ -1,7 +1,7 @@
 use native.Mathlib.Omega.{arith}
 use Rattle.counting.proofs.Range.{total_has}
 use Rattle.split.specs.work.Gains.{splits_at}
-use Rattle.split.proofs.drawing.next_stretch.Goals as goal
+use Rattle.split.proofs.drawing.next_split.Goals as goal
 
 pub returns-then-splits-eq0 : goal.returns-then-splits-eq0
 returns-then-splits-eq0 c = let A = c.args in
@@ -14,8 +14,8 @@ returns-then-splits-eq0 c = let A = c.args in
       after = λ h. absurd (omega arith);
     }
 
-pub stretch_from-requires : goal.stretch_from-requires
-stretch_from-requires c = c.requires.0
+pub split_from-requires : goal.split_from-requires
+split_from-requires c = c.requires.0
 
 pub returns : goal.returns
-returns c = c.stretch_from.ensures
+returns c = c.split_from.ensures
