@@ -22,21 +22,3 @@ seen_more f {j} {seen} w key e l = record {
     | no q ↦ get_or-set_other seen key k (j + 1) 0 q ∙ w.at k (omega (arith, length-set seen key (j + 1))) ∙ sym (last_miss (labelled f k) j (ne_eqb (f j) k (λ z. q (sym (e ∙ z)))))
   ];
 }
-
--- the loop of `clear` has put 0 at the first j places
-pub record Wiped (long : ℕ) (table : List ℕ) (j : ℕ) : Type 0 where
-  pub same : length table ≡ long
-  pub zeros_are : (k : ℕ) → k < j → get_or table k 0 ≡ 0
-
-pub wiped_none : (table : List ℕ) → Wiped (length table) table 0
-wiped_none table = record { same = refl; zeros_are = λ k h. absurd (omega arith) }
-
-module _ {long : ℕ} {table : List ℕ} {j : ℕ} (w : Wiped long table j) where
-  pub wiped_more : j < length table → Wiped long (set table j 0) (j + 1)
-  wiped_more h = record {
-    same = length-set table j 0 ∙ w.same;
-    zeros_are = λ k l. elim (ℕ_discrete k j) [ yes q ↦ rw q (get_or-set_same table j 0 0 h) | no q ↦ get_or-set_other table j k 0 0 q ∙ w.zeros_are k (omega arith) ];
-  }
-
-  pub wiped_all : length table ≤ j → (k : ℕ) → get_or table k 0 ≡ 0
-  wiped_all h k = elim (dec_lt k j) [ yes l ↦ w.zeros_are k l | no l ↦ get_or-eq_default table 0 {n = k} (omega arith) ]

@@ -12,11 +12,5 @@ pub cell_rows-requires : goal.cell_rows-requires
 cell_rows-requires c = let few = (length_fine _ (sym c.row_1.ensures ∙ c.if-row_1.false)).2 in
     record { few = few; pairs = c.requires.edges_len c.if-wrong.false; blank = c.requires.blank few }
 
-pub shape_of-near : goal.shape_of-near
-shape_of-near c = c.cell_rows.auto.near
-
-pub shape_of-sides : goal.shape_of-sides
-shape_of-sides c = c.cell_rows.auto.sides
-
 pub returns : goal.returns
 returns c = record { result_value = c.cell_rows.ensures.result_value ∙ with_3 _ _ (sym c.row_1.ensures ∙ c.if-row_1.false) c.if-wrong.false; where_accepted = c.cell_rows.ensures.where_accepted }

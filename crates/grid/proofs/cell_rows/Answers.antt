@@ -12,12 +12,6 @@ returns-in-Some c = record { result_value = rw c.at.ensures (answer_found _ 3 4 
 pub few_rows-requires : goal.few_rows-requires
 few_rows-requires c = let p = c.requires in record { cells_bound = c.if-grid-le-FEW_CELLS.true; numbering = record { ordered = ordered_cells _ c.row_3.ensures.small p.few (sym c.in_default.is ∙ c.row_3.ensures.value); pairs = p.pairs; blank = p.blank } }
 
-pub shape_of-near-then-grid-le-FEW_CELLS : goal.shape_of-near-then-grid-le-FEW_CELLS
-shape_of-near-then-grid-le-FEW_CELLS c = c.few_rows.auto.near
-
-pub shape_of-sides-then-grid-le-FEW_CELLS : goal.shape_of-sides-then-grid-le-FEW_CELLS
-shape_of-sides-then-grid-le-FEW_CELLS c = c.few_rows.auto.sides
-
 pub returns-then-grid-le-FEW_CELLS : goal.returns-then-grid-le-FEW_CELLS
 unfolding since rows
 returns-then-grid-le-FEW_CELLS c = record { result_value = c.few_rows.ensures.result_value ∙ answer_clear _ 3 4 refl (sym c.in_default.is ∙ c.row_3.ensures.value); where_accepted = c.few_rows.ensures.where_accepted }
@@ -25,12 +19,6 @@ returns-then-grid-le-FEW_CELLS c = record { result_value = c.few_rows.ensures.re
 pub many_rows-requires : goal.many_rows-requires
 many_rows-requires c = let p = c.requires in
     record { ordered = ordered_cells _ c.row_3.ensures.small p.few (sym c.in_default.is ∙ c.row_3.ensures.value); pairs = p.pairs; blank = p.blank }
-
-pub shape_of-near : goal.shape_of-near
-shape_of-near c = c.many_rows.auto.near
-
-pub shape_of-sides : goal.shape_of-sides
-shape_of-sides c = c.many_rows.auto.sides
 
 pub returns : goal.returns
 unfolding since rows

@@ -8,11 +8,5 @@ number_cells-requires c = record { low_chains = c.requires.low_chains; comparabl
 pub first_same-requires : goal.first_same-requires
 first_same-requires c = record { cells_bound = c.requires.comparable.few; cells = c.number_cells.ensures; fresh = fresh_again c.requires.comparable.at_room (c.clear.auto.table ∙ c.number_cells.auto.at) c.clear.ensures }
 
-pub shape_of-at : goal.shape_of-at
-shape_of-at c = c.first_same.auto.seen ∙ c.clear.auto.table ∙ c.number_cells.auto.at
-
-pub shape_of-same : goal.shape_of-same
-shape_of-same c = c.number_cells.auto.same
-
 pub returns : goal.returns
 returns c = c.first_same.ensures

@@ -11,39 +11,12 @@ place_sides-requires c = siding_placeable c.requires
 pub row_7-requires : goal.row_7-requires
 row_7-requires c = siding_talliable c.requires c.place_sides.ensures c.place_sides.auto.sides
 
-pub shape_of-tab-in-Some : goal.shape_of-tab-in-Some
-shape_of-tab-in-Some c = c.place_sides.auto.tab
-
-pub shape_of-top-in-Some : goal.shape_of-top-in-Some
-shape_of-top-in-Some c = c.row_7.auto.top
-
-pub shape_of-degree-in-Some : goal.shape_of-degree-in-Some
-shape_of-degree-in-Some c = c.row_7.auto.degree
-
-pub shape_of-sides-in-Some : goal.shape_of-sides-in-Some
-shape_of-sides-in-Some c = c.place_sides.auto.sides
-
 pub returns-in-Some : goal.returns-in-Some
 unfolding since rows
 returns-in-Some c = record { result_value = rw c.at.ensures (answer_found _ 7 8 refl _ (sym c.in-Some.is ∙ c.row_7.ensures.value ∙ siding_blank c.requires c.place_sides.ensures)); where_accepted = tt }
 
 pub used_rows-requires : goal.used_rows-requires
 used_rows-requires c = siding_using c.requires c.place_sides.ensures c.place_sides.auto.sides (sym c.in_default.is ∙ c.row_7.ensures.value) (c.row_7.ensures.tallied c.in_default.is)
-
-pub shape_of-tab : goal.shape_of-tab
-shape_of-tab c = c.place_sides.auto.tab
-
-pub shape_of-top : goal.shape_of-top
-shape_of-top c = c.row_7.auto.top
-
-pub shape_of-degree : goal.shape_of-degree
-shape_of-degree c = c.row_7.auto.degree
-
-pub shape_of-marks : goal.shape_of-marks
-shape_of-marks c = c.used_rows.auto.marks
-
-pub shape_of-sides : goal.shape_of-sides
-shape_of-sides c = c.place_sides.auto.sides
 
 pub returns : goal.returns
 unfolding since rows

@@ -13,9 +13,6 @@ pub loop-j-init : goal.loop-j-init
 loop-j-init c = let p = c.requires in
     (below_none _, refl, p.blank, meets_none _ _ p.unseen)
 
-pub bounds-keys-j : goal.bounds-keys-j
-bounds-keys-j c = omega (arith, c.requires.keyed)
-
 pub earlier-p-requires : goal.earlier-p-requires
 earlier-p-requires c = let w = c.loop-j.invariant in
     let p = c.requires in
@@ -50,19 +47,6 @@ bounds-near-p c = let L = c.loop-j in
     let b = top_le _ _ _ _ r in
     omega (arith, w.1, p.room)
 
-pub shape_of-seen-then-near-p-ne0 : goal.shape_of-seen-then-near-p-ne0
-shape_of-seen-then-near-p-ne0 c = let L = c.loop-j in
-    let w = L.invariant in
-    let p = c.requires in
-    let e = c.earlier-p in
-    let kl = p.known L.j (omega arith) in
-    let r = last_key c.args.keys.now L.j _ (meets_last w.3 _ refl (omega (arith, kl)) _ e.ensures.value) in
-    let b = top_le _ _ _ _ r in
-    (meets_more w.3 _ refl (omega (arith, kl)) _ e.ensures.seen_after).room
-
-pub shape_of-near-then-near-p-ne0 : goal.shape_of-near-then-near-p-ne0
-shape_of-near-then-near-p-ne0 c = c.loop-j.invariant.1
-
 pub returns-then-near-p-ne0 : goal.returns-then-near-p-ne0
 returns-then-near-p-ne0 c = let L = c.loop-j in
     let w = L.invariant in
@@ -82,15 +66,6 @@ overflow_cast-near c = let L = c.loop-j in
     let r = last_key c.args.keys.now L.j _ (meets_last w.3 _ refl (omega (arith, kl)) _ e.ensures.value) in
     let b = top_le _ _ _ _ r in
     omega (arith, p.small)
-
-pub offset_bounds-near-j : goal.offset_bounds-near-j
-offset_bounds-near-j c = omega (arith, c.requires.small)
-
-pub bounds-near-j : goal.bounds-near-j
-bounds-near-j c = omega (arith, c.loop-j.invariant.1, c.requires.room)
-
-pub overflow_cast-near-in-loop-j : goal.overflow_cast-near-in-loop-j
-overflow_cast-near-in-loop-j c = omega (arith, c.requires.small)
 
 pub offset_bounds-near-p-in-loop-j : goal.offset_bounds-near-p-in-loop-j
 offset_bounds-near-p-in-loop-j c = let L = c.loop-j in
@@ -123,12 +98,6 @@ loop-j-preserved c = let L = c.loop-j in
     let z = c.if-near-p-ne0.false in
     let h : L.j < length L.near = omega (arith, w.1, p.room) in
     (below_more _ _ w.0 (third_not w.2 _ r q z h), simp length-set w.1, mates_two w.2 _ r q z h, meets_more w.3 _ refl (omega (arith, kl)) _ e.ensures.seen_after)
-
-pub shape_of-seen : goal.shape_of-seen
-shape_of-seen c = c.loop-j.invariant.3.room
-
-pub shape_of-near : goal.shape_of-near
-shape_of-near c = c.loop-j.invariant.1
 
 pub returns : goal.returns
 returns c = let w = c.loop-j.invariant in

@@ -12,44 +12,11 @@ use Rattle.grid.proofs.edges.row_7.Goals as goal
 pub loop-j-init : goal.loop-j-init
 loop-j-init c = (below_none _, tallying_start c.requires)
 
-pub offset_bounds-sides-j : goal.offset_bounds-sides-j
-offset_bounds-sides-j c = omega (arith, c.requires.keyed)
-
-pub bounds-sides-j : goal.bounds-sides-j
-bounds-sides-j c = omega (arith, c.requires.keyed)
-
-pub shape_of-top-then-t-eq0 : goal.shape_of-top-then-t-eq0
-shape_of-top-then-t-eq0 c = c.loop-j.invariant.1.top_same
-
-pub shape_of-degree-then-t-eq0 : goal.shape_of-degree-then-t-eq0
-shape_of-degree-then-t-eq0 c = c.loop-j.invariant.1.degree_same
-
 pub returns-then-t-eq0 : goal.returns-then-t-eq0
 returns-then-t-eq0 c = let a = c.args in record { value = block_found _ _ 6 _ (omega arith) (blank_first a.sides.now (cell_count a.cells.now)) _ (found_hit _ _ _ (omega arith) (eq-eqb _ _ c.if-t-eq0.true) c.loop-j.invariant.0); tallied = λ e. absurd cc }
 
-pub offset_bounds-degree-t : goal.offset_bounds-degree-t
-offset_bounds-degree-t c = omega (arith, tallying_room c.requires c.loop-j.invariant.1 (omega arith) _ refl)
-
-pub bounds-degree-t : goal.bounds-degree-t
-bounds-degree-t c = tallying_room c.requires c.loop-j.invariant.1 (omega arith) _ refl
-
 pub overflow_add-degree : goal.overflow_add-degree
 overflow_add-degree c = omega (arith, tallying_few c.requires c.loop-j.invariant.1 (omega arith) _ refl, c.requires.small)
-
-pub bounds-degree-t-in-loop-j : goal.bounds-degree-t-in-loop-j
-bounds-degree-t-in-loop-j c = tallying_room c.requires c.loop-j.invariant.1 (omega arith) _ refl
-
-pub overflow_add-top : goal.overflow_add-top
-overflow_add-top c = omega (arith, c.requires.small)
-
-pub overflow_cast-top : goal.overflow_cast-top
-overflow_cast-top c = omega (arith, c.requires.small)
-
-pub offset_bounds-top-t : goal.offset_bounds-top-t
-offset_bounds-top-t c = omega (arith, tallying_lt c.requires c.loop-j.invariant.1 (omega arith) _ refl)
-
-pub bounds-top-t : goal.bounds-top-t
-bounds-top-t c = tallying_lt c.requires c.loop-j.invariant.1 (omega arith) _ refl
 
 pub loop-j-preserved : goal.loop-j-preserved
 loop-j-preserved c = (below_more _ _ c.loop-j.invariant.0 (ne_eqb _ _ c.if-t-eq0.false), tallying_more c.requires c.loop-j.invariant.1 (omega arith) _ refl)

@@ -4,12 +4,6 @@ use borrow.Author.Count.{below_more}
 use Rattle.grid.proofs.Sides.{row_8_hit, row_8_last, row_8_none}
 use Rattle.grid.proofs.edges.row_8.Goals as goal
 
-pub overflow_mul-grid : goal.overflow_mul-grid
-overflow_mul-grid c = omega (arith, c.requires.few)
-
-pub bounds-top-e : goal.bounds-top-e
-bounds-top-e c = omega (arith, c.requires.room)
-
 pub returns-then-top-e-eq0-clause-value : goal.returns-then-top-e-eq0-clause-value
 returns-then-top-e-eq0-clause-value c = row_8_hit c.requires c.min-m.result c.min-m.ensures _ (omega arith) c.if-top-e-eq0.true c.loop-e.invariant
 

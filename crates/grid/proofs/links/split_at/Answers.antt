@@ -3,20 +3,11 @@ use native.Mathlib.Omega.{arith}
 use Rattle.grid.proofs.Marks.{both_same, first_same, lower_on, may_spread, may_spread_first, met_all, met_first_le, met_le, other_apart, split_counted, spread_both, spread_whole, top_within}
 use Rattle.grid.proofs.links.split_at.Goals as goal
 
-pub overflow_sub-x : goal.overflow_sub-x
-overflow_sub-x c = omega (arith, c.requires.found)
-
-pub offset_bounds-marks-c : goal.offset_bounds-marks-c
-offset_bounds-marks-c c = omega (arith, top_within c.requires, c.requires.paired.few)
-
 pub bounds-marks-c : goal.bounds-marks-c
 bounds-marks-c c = omega (arith, top_within c.requires, c.requires.found, c.requires.room)
 
 pub other_side-t-requires : goal.other_side-t-requires
 other_side-t-requires c = lower_on _ _ (omega arith) c.lower_slot-s.ensures
-
-pub overflow_mul-c : goal.overflow_mul-c
-overflow_mul-c c = omega (arith, top_within c.requires, c.requires.paired.few)
 
 pub overflow_add-c : goal.overflow_add-c
 overflow_add-c c = let on = lower_on _ _ (omega arith) c.lower_slot-s.ensures in
@@ -33,17 +24,8 @@ spread-a-requires c = may_spread_first c.requires (lower_on _ _ (omega arith) c.
 pub overflow_add-a : goal.overflow_add-a
 overflow_add-a c = omega (arith, met_first_le c.requires c.spread-a.ensures, c.requires.paired.few)
 
-pub shape_of-marks-then-a-degree : goal.shape_of-marks-then-a-degree
-shape_of-marks-then-a-degree c = first_same c.requires c.spread-a.ensures
-
 pub returns-then-a-degree : goal.returns-then-a-degree
 returns-then-a-degree c = record { reached = (spread_whole c.requires (lower_on _ _ (omega arith) c.lower_slot-s.ensures) _ _ c.other_side-t.ensures.value c.rank_of.ensures.value _ _ c.spread-a.ensures c.if-a-degree.true).0; value = (spread_whole c.requires (lower_on _ _ (omega arith) c.lower_slot-s.ensures) _ _ c.other_side-t.ensures.value c.rank_of.ensures.value _ _ c.spread-a.ensures c.if-a-degree.true).1 }
-
-pub overflow_mul-c-2 : goal.overflow_mul-c-2
-overflow_mul-c-2 c = omega (arith, top_within c.requires, c.requires.paired.few)
-
-pub overflow_add-c-2 : goal.overflow_add-c-2
-overflow_add-c-2 c = omega (arith, top_within c.requires, c.requires.paired.few, c.other_side-t.ensures.upper_bound)
 
 pub rank_of-requires-2 : goal.rank_of-requires-2
 rank_of-requires-2 c = let on = lower_on _ _ (omega arith) c.lower_slot-s.ensures in
@@ -58,9 +40,6 @@ overflow_add-result c = omega (arith, met_le c.requires c.spread-a.ensures c.spr
 
 pub overflow_add-result-2 : goal.overflow_add-result-2
 overflow_add-result-2 c = omega (arith, met_le c.requires c.spread-a.ensures c.spread-b.ensures, c.requires.paired.few)
-
-pub shape_of-marks : goal.shape_of-marks
-shape_of-marks c = both_same c.requires c.spread-a.ensures c.spread-b.ensures
 
 pub returns : goal.returns
 returns c = let o = c.other_side-t.ensures in

@@ -9,50 +9,17 @@ use Rattle.grid.proofs.links.spread.Goals as goal
 at_rank : (s : ℕ) {r i : ℕ} → i < 3 → r ≡ position s (min i 2) → r ≡ position s i
 at_rank s l e = e ∙ ap (position s) (omega arith)
 
-pub offset_bounds-near-start : goal.offset_bounds-near-start
-offset_bounds-near-start c = omega (arith, c.requires.slot, c.requires.near_room)
-
-pub bounds-near-start : goal.bounds-near-start
-bounds-near-start c = omega (arith, c.requires.slot, c.requires.near_room)
-
 pub loop-p-init : goal.loop-p-init
 loop-p-init c = walking_start c.requires _ refl
 
-pub offset_bounds-marks-c : goal.offset_bounds-marks-c
-offset_bounds-marks-c c = omega (arith, walking_lt c.requires c.loop-p.invariant, c.requires.few)
-
-pub bounds-marks-c : goal.bounds-marks-c
-bounds-marks-c c = omega (arith, walking_lt c.requires c.loop-p.invariant, c.loop-p.invariant.same, c.requires.room)
-
-pub shape_of-marks-then-marks-c : goal.shape_of-marks-then-marks-c
-shape_of-marks-then-marks-c c = c.loop-p.invariant.same
-
 pub returns-then-marks-c : goal.returns-then-marks-c
 returns-then-marks-c c = walking_met c.requires c.loop-p.invariant (omega arith) c.if-marks-c.true
-
-pub offset_bounds-marks-c-in-loop-p : goal.offset_bounds-marks-c-in-loop-p
-offset_bounds-marks-c-in-loop-p c = omega (arith, walking_lt c.requires c.loop-p.invariant, c.requires.few)
-
-pub bounds-marks-c-in-loop-p : goal.bounds-marks-c-in-loop-p
-bounds-marks-c-in-loop-p c = omega (arith, walking_lt c.requires c.loop-p.invariant, c.loop-p.invariant.same, c.requires.room)
 
 pub overflow_add-met : goal.overflow_add-met
 overflow_add-met c = omega (arith, c.loop-p.invariant.counted, marked_le c.loop-p.marks c.args.mark c.args.n, c.requires.few)
 
 pub rank_of-r-requires : goal.rank_of-r-requires
 rank_of-r-requires c = record { i_bound = omega arith; s_bound = c.position-s.ensures.1; i_nonzero = λ e. omitted _ _ (sym c.position-s.ensures.0 ∙ sym e) }
-
-pub overflow_mul-p : goal.overflow_mul-p
-overflow_mul-p c = omega (arith, walking_lt c.requires c.loop-p.invariant, c.requires.few, c.position-s.ensures.1)
-
-pub overflow_add-p : goal.overflow_add-p
-overflow_add-p c = omega (arith, walking_lt c.requires c.loop-p.invariant, c.requires.few, c.position-s.ensures.1)
-
-pub offset_bounds-near-c : goal.offset_bounds-near-c
-offset_bounds-near-c c = omega (arith, walking_lt c.requires c.loop-p.invariant, c.requires.few, c.position-s.ensures.1)
-
-pub bounds-near-c : goal.bounds-near-c
-bounds-near-c c = omega (arith, walking_lt c.requires c.loop-p.invariant, c.requires.near_room, c.position-s.ensures.1)
 
 pub loop-p-smaller : goal.loop-p-smaller
 loop-p-smaller c = let P = c.requires in
@@ -64,9 +31,6 @@ pub loop-p-preserved : goal.loop-p-preserved
 loop-p-preserved c = let s = c.position-s.ensures in
     let t = c.rank_of-r.ensures in
     walking_more c.requires c.loop-p.invariant (omega arith) c.if-marks-c.false _ _ _ s.1 (at_rank _ c.loop-p.invariant.rank_lt s.0) t.upper_bound t.value refl
-
-pub shape_of-marks : goal.shape_of-marks
-shape_of-marks c = c.loop-p.invariant.same
 
 pub returns : goal.returns
 returns c = walking_end c.requires c.loop-p.invariant (omega arith)

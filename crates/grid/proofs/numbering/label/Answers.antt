@@ -15,12 +15,6 @@ loop-j-preserved c = let w = c.loop-j.invariant in
     let e = c.number-m.ensures in
     label_more c.requires w (does_number _ _ _ _ _ _ (label_one c.requires w (omega arith)) _ _ _ e.value e.at_after e.out_after)
 
-pub shape_of-at : goal.shape_of-at
-shape_of-at c = c.loop-j.invariant.at_long
-
-pub shape_of-out : goal.shape_of-out
-shape_of-out c = c.loop-j.invariant.out_long
-
 pub returns : goal.returns
 returns c = let w = c.loop-j.invariant in
     let e : c.loop-j.j ≡ c.args.n = omega arith in

@@ -5,11 +5,5 @@ use Rattle.grid.proofs.numbering.number_cells.Goals as goal
 pub pass-requires : goal.pass-requires
 pass-requires c = cells_passable c.requires.low_chains c.requires.comparable c.clear-2.auto.table c.clear-2.ensures c.clear.auto.table c.clear.ensures
 
-pub shape_of-at : goal.shape_of-at
-shape_of-at c = c.pass.auto.at ∙ c.clear-2.auto.table
-
-pub shape_of-same : goal.shape_of-same
-shape_of-same c = c.pass.ensures.out_long ∙ c.clear.auto.table
-
 pub returns : goal.returns
 returns c = cells_tell c.requires.low_chains c.requires.comparable c.clear-2.auto.table c.clear-2.ensures c.clear.auto.table c.clear.ensures _ _ c.pass.ensures

@@ -13,15 +13,6 @@ pass-requires c = let C = c.requires.label_chains in
     let S = slotted_faces c.requires.slotted (c.clear.auto.table ∙ c.number_pairs.auto.keys) c.clear.ensures in
     faces_passable S _ _ _ _ _ _ C.by0 C.by1 c.number_pairs.ensures (fresh_again c.requires.fresh.room (c.clear-2.auto.table ∙ c.number_pairs.auto.at) c.clear-2.ensures)
 
-pub shape_of-at : goal.shape_of-at
-shape_of-at c = c.pass.auto.at ∙ c.clear-2.auto.table ∙ c.number_pairs.auto.at
-
-pub shape_of-faces : goal.shape_of-faces
-shape_of-faces c = c.pass.ensures.out_long ∙ c.clear.auto.table ∙ c.number_pairs.auto.keys
-
-pub shape_of-same : goal.shape_of-same
-shape_of-same c = c.number_pairs.auto.out
-
 pub returns : goal.returns
 returns c = let C = c.requires.label_chains in
     let S = slotted_faces c.requires.slotted (c.clear.auto.table ∙ c.number_pairs.auto.keys) c.clear.ensures in

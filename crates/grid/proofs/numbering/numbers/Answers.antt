@@ -32,12 +32,6 @@ loop-s-preserved c = let p = c.requires in
     let r = slots_ready _ _ _ p.to_bound (omega arith) (omega arith) w p.ready in
     slots_more _ _ _ p.to_bound (omega arith) (omega arith) w (does_number _ _ _ _ _ _ r _ _ _ e.value e.at_after e.out_after)
 
-pub shape_of-at : goal.shape_of-at
-shape_of-at c = c.loop-s.invariant.at_long
-
-pub shape_of-out : goal.shape_of-out
-shape_of-out c = c.loop-s.invariant.out_long
-
 pub returns : goal.returns
 returns c = let w = c.loop-s.invariant in
     let e : c.loop-s.s ≡ c.args.to = omega arith in

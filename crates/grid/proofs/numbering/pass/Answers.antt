@@ -14,11 +14,5 @@ walk-ids-requires c = passing_b c.loop-r.invariant c.requires (omega arith) c.wa
 pub loop-r-preserved : goal.loop-r-preserved
 loop-r-preserved c = passing_more c.loop-r.invariant (omega arith) c.walk-d.ensures c.walk-ids.ensures
 
-pub shape_of-at : goal.shape_of-at
-shape_of-at c = c.loop-r.invariant.at_long
-
-pub shape_of-out : goal.shape_of-out
-shape_of-out c = c.loop-r.invariant.out_long
-
 pub returns : goal.returns
 returns c = passing_end c.loop-r.invariant (omega arith)

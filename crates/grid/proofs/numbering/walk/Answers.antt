@@ -6,9 +6,6 @@ use Rattle.grid.proofs.numbering.walk.Goals as goal
 pub returns-then-to-from : goal.returns-then-to-from
 returns-then-to-from c = walking_empty c.if-to-from.true
 
-pub bounds-head-r : goal.bounds-head-r
-bounds-head-r c = omega (arith, c.requires.within, c.requires.linked.heads.room)
-
 pub loop-j-init : goal.loop-j-init
 loop-j-init c = walking_start _ refl
 
@@ -26,12 +23,6 @@ loop-j-smaller c = omega (arith, walking_less c.loop-j.invariant (omega arith) c
 
 pub loop-j-preserved : goal.loop-j-preserved
 loop-j-preserved c = walking_more c.loop-j.invariant (omega arith) c.numbers-m.ensures _ refl
-
-pub shape_of-at : goal.shape_of-at
-shape_of-at c = c.loop-j.invariant.at_long
-
-pub shape_of-out : goal.shape_of-out
-shape_of-out c = c.loop-j.invariant.out_long
 
 pub returns : goal.returns
 returns c = walking_end c.loop-j.invariant (omega arith)

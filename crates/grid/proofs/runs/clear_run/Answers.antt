@@ -7,20 +7,8 @@ use Rattle.grid.proofs.runs.clear_run.Goals as goal
 pub loop-e-init : goal.loop-e-init
 loop-e-init c = (record { only = c.requires.only }, refl)
 
-pub overflow_mul-e : goal.overflow_mul-e
-overflow_mul-e c = omega (arith, c.requires.ends)
-
-pub overflow_add-e : goal.overflow_add-e
-overflow_add-e c = omega (arith, c.requires.ends)
-
-pub bounds-edges-e : goal.bounds-edges-e
-bounds-edges-e c = omega (arith, c.requires.ends)
-
 pub loop-e-preserved : goal.loop-e-preserved
 loop-e-preserved c = (clearing_more c.loop-e.invariant.0 _ c.put_at.ensures, ap length c.put_at.ensures ∙ (simp length-set) ∙ c.loop-e.invariant.1)
-
-pub shape_of-tab : goal.shape_of-tab
-shape_of-tab c = c.loop-e.invariant.1
 
 pub returns : goal.returns
 returns c = clearing_end c.loop-e.invariant.0 (omega arith)

@@ -3,26 +3,8 @@ use native.Mathlib.Omega.{arith}
 use Rattle.grid.proofs.Laying.{placing_clearable, placing_end, placing_fillable, placing_more, placing_start, placing_stop, placing_turnable}
 use Rattle.grid.proofs.runs.place_sides.Goals as goal
 
-pub overflow_mul-cap : goal.overflow_mul-cap
-overflow_mul-cap c = omega (arith, c.requires.few)
-
 pub loop-e-init : goal.loop-e-init
 loop-e-init c = placing_start c.requires
-
-pub overflow_mul-u : goal.overflow_mul-u
-overflow_mul-u c = omega (arith, c.requires.ends)
-
-pub offset_bounds-edges-e : goal.offset_bounds-edges-e
-offset_bounds-edges-e c = omega (arith, c.requires.ends)
-
-pub bounds-edges-e : goal.bounds-edges-e
-bounds-edges-e c = omega (arith, c.requires.ends)
-
-pub shape_of-tab-then-u-gt-HIGHEST_NODE : goal.shape_of-tab-then-u-gt-HIGHEST_NODE
-shape_of-tab-then-u-gt-HIGHEST_NODE c = c.loop-e.invariant.tab_same
-
-pub shape_of-sides-then-u-gt-HIGHEST_NODE : goal.shape_of-sides-then-u-gt-HIGHEST_NODE
-shape_of-sides-then-u-gt-HIGHEST_NODE c = c.loop-e.invariant.same
 
 pub returns-then-u-gt-HIGHEST_NODE : goal.returns-then-u-gt-HIGHEST_NODE
 returns-then-u-gt-HIGHEST_NODE c = placing_stop c.requires c.loop-e.invariant (omega arith) (omega (arith, c.if-u-gt-HIGHEST_NODE.true))
@@ -41,12 +23,6 @@ loop-e-smaller c = omega (arith, c.fill_run-f.ensures.more, c.fill_run-f.ensures
 
 pub loop-e-preserved : goal.loop-e-preserved
 loop-e-preserved c = placing_more c.requires c.loop-e.invariant (omega arith) refl c.fill_run-f.ensures _ refl _ _ c.clear_run.ensures (c.clear_run.auto.tab ∙ c.fill_run-f.ensures.same) c.turn_sides.ensures
-
-pub shape_of-tab : goal.shape_of-tab
-shape_of-tab c = c.loop-e.invariant.tab_same
-
-pub shape_of-sides : goal.shape_of-sides
-shape_of-sides c = c.loop-e.invariant.same
 
 pub returns : goal.returns
 returns c = placing_end c.requires c.loop-e.invariant (omega arith)

@@ -9,29 +9,8 @@ loop-k-init c = lays_none _ _ _ _ (λ d q p. omega (arith, p.low, p.high))
 pub node_at-v-requires : goal.node_at-v-requires
 node_at-v-requires c = record { c_bound = omega (arith, c.requires.within, c.requires.layable.cells-are); i_bound = c.high_end.ensures.1 }
 
-pub offset_bounds-tab-v : goal.offset_bounds-tab-v
-offset_bounds-tab-v c = omega (arith, c.node_at-v.ensures.upper_bound)
-
-pub bounds-tab-v : goal.bounds-tab-v
-bounds-tab-v c = rw c.node_at-v.ensures.value (c.requires.layable.known _ _ c.requires.within c.high_end.ensures.1)
-
-pub overflow_mul-sides : goal.overflow_mul-sides
-overflow_mul-sides c = omega (arith, c.requires.within, c.requires.layable.few)
-
-pub overflow_add-sides : goal.overflow_add-sides
-overflow_add-sides c = omega (arith, c.requires.within, c.requires.layable.few, c.requires.edges)
-
-pub offset_bounds-sides-c : goal.offset_bounds-sides-c
-offset_bounds-sides-c c = omega (arith, c.requires.within, c.requires.layable.few, c.requires.edges)
-
-pub bounds-sides-c : goal.bounds-sides-c
-bounds-sides-c c = omega (arith, c.requires.within, c.requires.layable.room, c.requires.edges, c.loop-k.invariant.same)
-
 pub loop-k-preserved : goal.loop-k-preserved
 loop-k-preserved c = putting_more c.loop-k.invariant (omega arith) _ (lays_one (omega (arith, c.requires.edges)) (omega (arith, c.requires.within, c.requires.layable.room, c.requires.edges, c.loop-k.invariant.same)) _ (rw (c.node_at-v.ensures.value, c.high_end.ensures.0)) _ refl)
-
-pub shape_of-sides : goal.shape_of-sides
-shape_of-sides c = c.loop-k.invariant.same
 
 pub returns : goal.returns
 returns c = putting_end c.loop-k.invariant (omega arith) (omega arith)

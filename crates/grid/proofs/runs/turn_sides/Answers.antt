@@ -3,12 +3,6 @@ use mathlib.Core.Path.{◌∙◌, refl}
 use Rattle.grid.proofs.Laying.{turn_lays, turn_walkable}
 use Rattle.grid.proofs.runs.turn_sides.Goals as goal
 
-pub offset_bounds-ranks-u : goal.offset_bounds-ranks-u
-offset_bounds-ranks-u c = omega (arith, c.requires.node_lt, c.requires.chained.ranks_room)
-
-pub bounds-ranks-u : goal.bounds-ranks-u
-bounds-ranks-u c = omega (arith, c.requires.node_lt, c.requires.chained.ranks_room)
-
 pub walk_sides-requires : goal.walk_sides-requires
 walk_sides-requires c = turn_walkable c.requires _ refl 0 0 3 _ _ c.requires.chained.by0 (omega arith) (omega arith) _ refl
 
@@ -17,9 +11,6 @@ walk_sides-requires-2 c = turn_walkable c.requires _ refl 1 3 5 _ _ c.requires.c
 
 pub walk_sides-requires-3 : goal.walk_sides-requires-3
 walk_sides-requires-3 c = turn_walkable c.requires _ refl 2 5 6 _ _ c.requires.chained.by2 (omega arith) (omega arith) _ (c.walk_sides-2.ensures.same ∙ c.walk_sides.ensures.same)
-
-pub shape_of-sides : goal.shape_of-sides
-shape_of-sides c = c.walk_sides-3.ensures.same ∙ c.walk_sides-2.ensures.same ∙ c.walk_sides.ensures.same
 
 pub returns : goal.returns
 returns c = turn_lays c.requires _ refl c.walk_sides.ensures c.walk_sides-2.ensures c.walk_sides-3.ensures

@@ -3,12 +3,6 @@ use native.Mathlib.Omega.{arith}
 use Rattle.grid.proofs.Laying.{along_end, along_less, along_lt, along_more, along_puttable, along_start}
 use Rattle.grid.proofs.runs.walk_sides.Goals as goal
 
-pub offset_bounds-head-r : goal.offset_bounds-head-r
-offset_bounds-head-r c = omega (arith, c.requires.within, c.requires.linked.heads.room)
-
-pub bounds-head-r : goal.bounds-head-r
-bounds-head-r c = omega (arith, c.requires.within, c.requires.linked.heads.room)
-
 pub loop-j-init : goal.loop-j-init
 loop-j-init c = along_start _ refl
 
@@ -26,9 +20,6 @@ loop-j-smaller c = omega (arith, along_less c.loop-j.invariant (omega arith) c.r
 
 pub loop-j-preserved : goal.loop-j-preserved
 loop-j-preserved c = along_more c.loop-j.invariant (omega arith) c.put_sides.ensures _ refl
-
-pub shape_of-sides : goal.shape_of-sides
-shape_of-sides c = c.loop-j.invariant.same
 
 pub returns : goal.returns
 returns c = along_end c.loop-j.invariant (omega arith)

@@ -13,11 +13,6 @@ pub loop-e-init : goal.loop-e-init
 loop-e-init c = let p = c.requires in
     (p.own, table_filled _ _ _ (record { room = omega (arith, p.room, p.within); at = p.before }))
 
-pub bounds-starts-e : goal.bounds-starts-e
-bounds-starts-e c = let c-pre = c.requires in
-    let c-args = c.args in
-    omega (arith, c-pre.room, ap length c.loop-e.invariant.1, length_filled (start c-args.counts.now) c.loop-e.e c-args.starts.now)
-
 pub overflow_add-sum : goal.overflow_add-sum
 overflow_add-sum c = let c-pre = c.requires in
     let c-args = c.args in
@@ -28,10 +23,6 @@ pub loop-e-preserved : goal.loop-e-preserved
 loop-e-preserved c = let c-args = c.args in
     let c-loop = c.loop-e in
     (omega (arith, start_next c-args.counts.now c-loop.e, c-loop.invariant.0), filled_more (start c-args.counts.now) _ _ _ _ c-loop.invariant.1 c-loop.invariant.0)
-
-pub shape_of-starts : goal.shape_of-starts
-shape_of-starts c = let c-args = c.args in
-    ap length c.loop-e.invariant.1 ∙ length_filled (start c-args.counts.now) c.loop-e.e c-args.starts.now
 
 pub returns : goal.returns
 returns c = let c-args = c.args in
