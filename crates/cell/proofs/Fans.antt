@@ -10,7 +10,7 @@ use native.Mathlib.Omega.{arith}
 use lib.Dec.{ltb, leb}
 use lib.ListN.{length, get_or}
 use lib.Ieee.{Float}
-use borrow.Author.Tests.{le-leb, leb-true, lt-leb, leb-false, ltb-true, lt-ltb}
+use borrow.Author.Tests.{le-leb, leb-true, lt-leb, leb-false, lt-ltb}
 use Rattle.counting.specs.Lists.{gather, one, over}
 use Rattle.counting.specs.Pick.{pick}
 use Rattle.counting.specs.Search.{count}
@@ -35,6 +35,7 @@ use Rattle.cell.specs.Loop.{loop_size, dart, normal, in_grid}
 use Rattle.cell.specs.work.Limits.{most_in_cell}
 use Rattle.cell.specs.Triangles.{number_of}
 use Rattle.cell.specs.declared.Nest.{Nest}
+use Rattle.std.proofs.Common.{Option, Some, None, is_some}
 use Rattle.cell.specs.claims.Nests.{nest_edge, nest_middle}
 use Rattle.cell.specs.Middles.{is_fan, loop_point, corner_place}
 use Rattle.cell.specs.claims.Middles.{fan_count, fan_middle, loop_middle, cell_middles, numbered_below, is_placeable, middles_at, points_then, next_point}
@@ -63,11 +64,6 @@ module _ (n : ℕ) (normal : Bool) where
 
   pub fan_else : n ≢ 0 → n ≢ 3 → (n ≡ 4 → normal ≡ false) → 1 ≡ one (has_middle n normal)
   fan_else a b h = ap one (sym (fan-middle n normal (omega arith) (shape_else n normal b h)))
-
--- two choices by the same test
-choice : (b : Bool) {d : Bool} {p q r s : Place} → b ≡ d → (b ≡ true → p ≡ q) → r ≡ s → pick b p r ≡ pick d q s
-choice true e f g = rw (← e) (f refl)
-choice false e f g = rw (← e) g
 
 -- where the test fails, by the other
 second : (b : Bool) (p q r : Place) → (b ≡ false → q ≡ r) → pick b p q ≡ pick b p r
@@ -134,9 +130,10 @@ pub nest_placeable : (c : Cell) (n : ℕ) → nest_edge (count_of c) < 3 → is_
 unfolding is_placeable
 nest_placeable c n h = or_right (numbered_below c n) (ltb (nest_edge (count_of c)) 3) (lt-ltb (nest_edge (count_of c)) 3 h)
 
-pub placeable_is : (c : Cell) (n : ℕ) {q : ℕ} → q ≡ nest_edge (count_of c) → numbered_below c n ≡ false → ltb q 3 ≡ is_placeable c n
+pub placeable_is : (c : Cell) (n : ℕ) (q : Option Nest) → IsNest c q → numbered_below c n ≡ false → is_some q ≡ is_placeable c n
 unfolding is_placeable
-placeable_is c n e f = rw (e, f)
+placeable_is c n (Some q) Q f = rw (f, lt-ltb (nest_edge (count_of c)) 3 (omega (arith, Q.edge_is, Q.edge_lt)))
+placeable_is c n None Q f = rw (f, Q)
 
 placeable_below : (c : Cell) (n : ℕ) → is_placeable c n ≡ true → ltb (nest_edge (count_of c)) 3 ≡ false → numbered_below c n ≡ true
 unfolding is_placeable
@@ -177,22 +174,23 @@ module _ {c : Cell} {p n : ℕ} {b : Bool} {halves points : List ℕ} (L : Loope
   points_fan : has_middle (length points) b ≡ is_fan c p
   points_fan = ap (λ m. has_middle m b) (looped_points L) ∙ looped_fan
 
-  module _ {q : Nest} (Q : IsNest c q) (nodes area : List Float) where
+  module _ (nodes area : List Float) where
     -- in a nest, or by its points
-    looped_place : has_middle (length points) b ≡ true → recorded_place c q nodes halves points area ≡ fan_middle nodes (place_at area) c p
+    looped_place : (q : Option Nest) → IsNest c q → has_middle (length points) b ≡ true → recorded_place c q nodes halves points area ≡ fan_middle nodes (place_at area) c p
     unfolding recorded_place fan_middle loop_point number_of
-    looped_place f =
+    looped_place (Some q) Q f = rw (lt-ltb (nest_edge (count_of c)) 3 (omega (arith, Q.edge_is, Q.edge_lt))) (looped_nested L Q nodes)
+    looped_place None Q f =
         let m = length points in
         let e = looped_points L ∙ L.size in
-        choice (ltb q.edge 3) (ap (λ k. ltb k 3) Q.edge_is) (λ t. looped_nested L Q nodes (ltb-true q.edge 3 t))
+        rw Q
         (middle_ext (λ k. place_at area (get_or points k 0)) (λ k. place_at area (loop_point c p k)) m (middle_fan m b f).0
         (λ k h. ap (place_at area) (ap (λ l. get_or l k 0) L.points_are ∙ from_point c p k (omega (arith, e))))
         ∙ ap (middle (λ k. place_at area (loop_point c p k))) e)
 
-    pub looped_middle : recorded_middle c q nodes halves points b area ≡ loop_middle nodes (place_at area) c p
+    pub looped_middle : (q : Option Nest) → IsNest c q → recorded_middle c q nodes halves points b area ≡ loop_middle nodes (place_at area) c p
     unfolding recorded_middle loop_middle
-    looped_middle =
-        one_ext (has_middle (length points) b) (recorded_place c q nodes halves points area) (fan_middle nodes (place_at area) c p) looped_place
+    looped_middle q Q =
+        one_ext (has_middle (length points) b) (recorded_place c q nodes halves points area) (fan_middle nodes (place_at area) c p) (looped_place q Q)
         ∙ ap (λ (b : Bool). pick b (fan_middle nodes (place_at area) c p ∷ []) []) points_fan
 
   -- one fan more, or none
@@ -210,7 +208,7 @@ unfolding fan_count count
 no-fans c e = rw e
 
 -- a recorded loop's middle is written, or there is none
-module _ (c : Cell) (n : Nest) (nodes : List Float) (halves points : List ℕ) (normal : Bool) (area : List Float) (at r : ℕ) (q : r ≡ one (has_middle (length points) normal)) where
+module _ (c : Cell) (n : Option Nest) (nodes : List Float) (halves points : List ℕ) (normal : Bool) (area : List Float) (at r : ℕ) (q : r ≡ one (has_middle (length points) normal)) where
   is-fan : (b : Bool) → one b ≡ r → (r ≡ 0 → b ≡ false) × (r ≢ 0 → b ≡ true)
   is-fan true e = (λ z. absurd (omega arith), λ z. refl)
   is-fan false e = (λ z. refl, λ z. absurd (z (sym e)))
@@ -253,11 +251,11 @@ module _ (nodes : List Float) (c : Cell) (area : List Float) (at : ℕ) where
             ap one (points_fan L),
           )
 
-      pub middle_next : {q : Nest} → IsNest c q → {out : List Float} {m : ℕ} → Stored mid (coordinates * i) (all_numbers (recorded_middle c q nodes halves points b mid)) out m
+      pub middle_next : (q : Option Nest) → IsNest c q → {out : List Float} {m : ℕ} → Stored mid (coordinates * i) (all_numbers (recorded_middle c q nodes halves points b mid)) out m
           → Stored area (coordinates * at) (over (middle_of nodes c area) (p + 1) 0) out m
-      middle_next Q T =
+      middle_next q Q T =
           stored_more (middle_of nodes c area) p S
-          (stored_as T (ap all_numbers (looped_middle L Q nodes mid ∙ loop_ext nodes c at R.below (place_at mid) (place_at area) (place_kept S) p L.inside)) refl)
+          (stored_as T (ap all_numbers (looped_middle L nodes mid q Q ∙ loop_ext nodes c at R.below (place_at mid) (place_at area) (place_kept S) p L.inside)) refl)
 
     pub middles_all : {p m : ℕ} {out : List Float} → Stored area (coordinates * at) (over (middle_of nodes c area) p 0) out m → p ≡ crossings (edges_of c)
         → Stored area (coordinates * at) (all_numbers (cell_middles nodes (place_at area) c)) out m

@@ -10,7 +10,7 @@ use native.Mathlib.Decide.{dec_lt}
 use lib.Dec.{eqb, ltb}
 use lib.ListN.{length, get_or}
 use lib.Ieee.{Float}
-use borrow.Author.Tests.{eqb-true, ltb-true, eq-eqb, ne_eqb, lt-ltb, le-ltb}
+use borrow.Author.Tests.{eqb-true, ltb-true, eq-eqb, ne_eqb}
 use Rattle.counting.specs.Pick.{pick}
 use Rattle.counting.specs.Lists.{total, values, pre}
 use Rattle.counting.specs.Search.{every}
@@ -20,7 +20,7 @@ use Rattle.slots.specs.Slots.{slot_edge}
 use Rattle.face.specs.claims.Level.{Level}
 use Rattle.face.proofs.Level.{level_turn, level_swap}
 use Rattle.place.specs.declared.Place.{Place}
-use Rattle.place.specs.Place.{part_of, between, middle, place_at}
+use Rattle.place.specs.Place.{part_of, between}
 use Rattle.cell.specs.declared.Cell.{Cell}
 use Rattle.cell.specs.declared.Nest.{Nest}
 use Rattle.cell.specs.Cell.{edge}
@@ -30,7 +30,7 @@ use Rattle.cell.specs.Level.{by_edge, is_level_cell}
 use Rattle.cell.specs.Loop.{loop_size, dart, in_grid}
 use Rattle.cell.specs.claims.Nests.{greatest_of, exceeds, exceeding, pair_at, nest_edge, nest_count, nest_corner, nest_low, nest_rank, on_axis, nest_middle}
 use Rattle.cell.specs.Middles.{half_sum, corner_place}
-use Rattle.cell.specs.work.Centres.{highest_on, NestOn, IsNest, recorded_nested, recorded_place}
+use Rattle.cell.specs.work.Centres.{highest_on, NestOn, NestOf, recorded_nested}
 use Rattle.cell.proofs.Levels.{slot_level}
 use Rattle.cell.proofs.Loops.{from_point, from_edge}
 use Rattle.cell.proofs.Going.{Looped, looped_halves}
@@ -191,9 +191,6 @@ module _ (c : Cell) {six : List ℕ} (e : six ≡ values (count_of c) 6) where
     unfolding nest_edge
     edge_by t = rw (sym (six_level c e) ∙ t) by_sums
 
-pub none_is : (c : Cell) {q : Nest} → (q.edge ≡ 3) × (q.count ≡ 0) → 3 ≡ nest_edge (count_of c) → IsNest c q
-none_is c n e = record { edge_is = n.0 ∙ e; count_is = λ l. absurd (omega (arith, n.0)); low_is = λ l. absurd (omega (arith, n.0)); few = omega (arith, n.1) }
-
 module _ {c : Cell} {six : List ℕ} {e : ℕ} (N : NestOn c six e) where
   beside_lt : pick (eqb e 0) 1 0 < 6
   beside_lt = go (eqb e 0)
@@ -234,15 +231,6 @@ module _ (c : Cell) (q : Nest) (nodes : List Float) (halves points : List ℕ) w
   unfolding recorded_nested on_axis
   nested_by e a b s i h = rw (e, a, b, s, i, h)
 
-  module _ (area : List Float) where
-    pub place_nested : q.edge < 3 → {r : Place} → r ≡ recorded_nested c q nodes halves points → r ≡ recorded_place c q nodes halves points area
-    unfolding recorded_place
-    place_nested l e = rw (lt-ltb q.edge 3 l) e
-
-    pub place_mean : 3 ≤ q.edge → {r : Place} → r ≡ middle (λ k. place_at area (get_or points k 0)) (length points) → r ≡ recorded_place c q nodes halves points area
-    unfolding recorded_place
-    place_mean l e = rw (le-ltb q.edge 3 l) e
-
 -- what is recorded of a loop
 module _ {c : Cell} {p n : ℕ} {b : Bool} {halves points : List ℕ} (L : Looped c p n b halves points) where
   looped_highest : (e : ℕ)
@@ -255,7 +243,7 @@ module _ {c : Cell} {p n : ℕ} {b : Bool} {halves points : List ℕ} (L : Loope
       (λ k l. rw (L.halves_are, L.points_are, from_edge c p L.inside k (omega (arith, f)), from_point c p k (omega (arith, f))))
       ∙ ap (greatest_of _) f
 
-  pub looped_nested : {q : Nest} → IsNest c q → (nodes : List Float) → q.edge < 3 → recorded_nested c q nodes halves points ≡ nest_middle (corner_place nodes c) c p
+  pub looped_nested : {q : Nest} → NestOf c q → (nodes : List Float) → recorded_nested c q nodes halves points ≡ nest_middle (corner_place nodes c) c p
   unfolding recorded_nested nest_middle nest_rank
-  looped_nested {q} Q nodes l =
-      rw (Q.count_is l, Q.low_is l, Q.edge_is, looped_highest (nest_edge (count_of c)))
+  looped_nested {q} Q nodes =
+      rw (Q.count_is, Q.low_is, Q.edge_is, looped_highest (nest_edge (count_of c)))

@@ -12,8 +12,7 @@ use Rattle.slots.specs.Slots.{lower, upper}
 use Rattle.face.proofs.Stands.{Stands, Within}
 use Rattle.cell.specs.declared.Cell.{Cell}
 use Rattle.cell.specs.declared.Dart.{Dart}
-use Rattle.cell.specs.declared.Next.{Next}
-use Rattle.cell.specs.declared.Next.TheVariants.{On, End}
+use Rattle.std.proofs.Common.{Option, Some, None}
 use Rattle.cell.specs.Cell.{Edges, crossings, number, step}
 use Rattle.cell.specs.Loop.{folded}
 use Rattle.cell.specs.Of.{edges_of}
@@ -154,8 +153,8 @@ module _ {w : Edges} {d : Dart} {u f : ℕ} (A : Beside w d u) (e : f ≡ twin d
   beside_leads D = leads e (record { parts = record { half_lt = A.spot.half_lt; index_lt = A.spot.index_lt; number_is = refl }; is = A.is }) A.told D
 
 -- what a step came to, by its case
-pub onward_on : {w : Edges} {d e : Dart} {b : Bool} {r : Next} → Onward w d r → r ≡ On e b → Leads w d e b
+pub onward_on : {w : Edges} {d e : Dart} {b : Bool} {r : Option (Dart × Bool)} → Onward w d r → r ≡ Some (e, b) → Leads w d e b
 onward_on {w} {d} o q = subst (Onward w d) q o
 
-pub onward_end : (w : Edges) (d : Dart) {r : Next} → Onward w d r → r ≡ End → step w (dart_of d) ≡ 2 * crossings w
+pub onward_end : (w : Edges) (d : Dart) {r : Option (Dart × Bool)} → Onward w d r → r ≡ None → step w (dart_of d) ≡ 2 * crossings w
 onward_end w d o q = subst (Onward w d) q o

@@ -140,19 +140,12 @@ struct Dart {
     number: usize,
 }
 
-// The nest of a cell: its edge E, or 3 for none; how many loops it has, m, and the crossing number of the crossing m of E, of those that are left.
+// The nest of a cell: its edge E; how many loops it has, m, and the crossing number of the crossing m of E, of those that are left.
 #[derive(Clone, Copy)]
 struct Nest {
     edge: usize,
-    count: usize,
+    count: u32,
     low: usize,
-}
-
-// What follows a dart: another, and whether the segment to it goes along its edge; or the end of its curve.
-#[derive(Clone, Copy)]
-enum Next {
-    On(Dart, bool),
-    End,
 }
 
 // What a walk found: the length of the loop, 0 where there is none, and whether it is normal.

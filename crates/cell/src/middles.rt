@@ -4,12 +4,12 @@ ghost use Rattle.counting.specs.Lists.{one};
 ghost use Rattle.counting.specs.work.Stored.{Stored};
 ghost use Rattle.place.specs.Place.{coordinates, place_at, all_numbers};
 ghost use Rattle.manifold.specs.Shape.{has_middle};
-ghost use Rattle.cell.specs.work.Limits.{most_in_cell, most_sum};
+ghost use Rattle.cell.specs.work.Limits.{most_in_cell};
 ghost use Rattle.cell.specs.Cell.{crossings};
 ghost use Rattle.cell.specs.Of.{edges_of};
 ghost use Rattle.cell.specs.work.Walked.{Room, Used};
 ghost use Rattle.cell.specs.claims.Middles.{fan_count, cell_middles, numbered_below, is_placeable, points_then, next_point};
-ghost use Rattle.cell.specs.work.Centres.{recorded_place, recorded_middle, MiddlesRoom};
+ghost use Rattle.cell.specs.work.Centres.{IsNest, recorded_place, recorded_middle, MiddlesRoom};
 
 use super::nests::{nest_in, nested_middle};
 use super::routes::{end_of, routes_of};
@@ -28,28 +28,28 @@ pub(crate) fn fan_of(n: usize, normal: bool) -> usize
     }
 }
 
-// The middle of a recorded loop of the cell with the nest q: in a nest by the nodes' places, else by the area's points.
+// The middle of a recorded loop of the cell, whose nest is q where it has one: in a nest by the nodes' places, else by the area's points.
 pub(crate) fn middle_in(
     c: Cell,
-    q: Nest,
+    q: Option<Nest>,
     nodes: &[f64],
     halves: &[u8],
     points: &[u32],
     area: &[f64],
 ) -> Place
-    requires { q.count ≤ most_sum }
+    requires { IsNest c q }
     ensures { result ≡ recorded_place c q nodes.now halves.now points.now area.now }
 {
-    if q.edge < 3 {
-        return nested_middle(c, q, nodes, halves, points);
+    match q {
+        Some(nest) => nested_middle(c, nest, nodes, halves, points),
+        None => place::middle_of(area, points),
     }
-    place::middle_of(area, points)
 }
 
 // Writes the middle of a recorded loop as point `at` of the area, where the loop is drawn as a fan, and answers the next point.
 fn put_middle(
     c: Cell,
-    q: Nest,
+    q: Option<Nest>,
     nodes: &[f64],
     halves: &[u8],
     points: &[u32],
@@ -57,7 +57,8 @@ fn put_middle(
     area: &mut [f64],
     at: usize,
 ) -> usize
-    requires { (q.count ≤ most_sum) × (coordinates * (at + one (has_middle (length points.now) normal)) ≤ length area.old) }
+    requires nest { IsNest c q }
+    requires room { coordinates * (at + one (has_middle (length points.now) normal)) ≤ length area.old }
     ensures { Stored area.old (coordinates * at) (all_numbers (recorded_middle c q nodes.now halves.now points.now normal area.old)) area.new (coordinates * result) }
 {
     if fan_of(points.len(), normal) == 0 {
@@ -146,7 +147,7 @@ fn is_placeable(c: Cell, n: usize, at: usize) -> bool
     requires { n ≡ crossings (edges_of c) }
     ensures { result ≡ is_placeable c at }
 {
-    is_below(c, at) || nest_in(c, n).edge < 3
+    is_below(c, at) || nest_in(c, n).is_some()
 }
 
 // Whether the cell's middles can be written from point `at` on, and have room there in an area of `room` numbers. A cell has no more fans than

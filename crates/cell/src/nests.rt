@@ -1,5 +1,5 @@
 // The nest of a cell, by its counts, and the middles of its loops.
-ghost use Rattle.std.specs.Prelude.{◌≡◌, ◌+◌, ◌-◌, ◌/◌, ◌≤◌, ◌<◌, max, eqb, get_or};
+ghost use Rattle.std.specs.Prelude.{◌≡◌, ◌+◌, ◌-◌, ◌/◌, ◌≤◌, ◌<◌, max, eqb, get_or, MatchOption};
 ghost use Rattle.counting.specs.Pick.{pick};
 ghost use Rattle.counting.specs.Lists.{values};
 ghost use Rattle.cell.specs.work.Limits.{most_sum};
@@ -8,7 +8,7 @@ ghost use Rattle.cell.specs.Of.{count_of, edges_of};
 ghost use Rattle.cell.specs.Level.{by_edge};
 ghost use Rattle.cell.specs.claims.Nests.{exceeds, exceeding, pair_at};
 ghost use Rattle.cell.specs.Middles.{half_sum, corner_place};
-ghost use Rattle.cell.specs.work.Centres.{highest_on, NestOn, IsNest, recorded_nested};
+ghost use Rattle.cell.specs.work.Centres.{highest_on, NestOn, NestOf, IsNest, recorded_nested};
 
 use super::answers::edge_at;
 use super::level::is_level;
@@ -47,21 +47,21 @@ fn is_above(x: usize, y: usize, z: usize) -> bool
     y == z && y + 2 < x
 }
 
-// Which of the three is so; 3 where none is.
-fn above_of(x: usize, y: usize, z: usize) -> usize
+// Which of the three is so, where one is.
+fn above_of(x: usize, y: usize, z: usize) -> Option<usize>
     requires { (x ≤ most_sum) × (y ≤ most_sum) × (z ≤ most_sum) }
-    ensures { (result ≡ exceeding x y z) × (result ≤ 3) }
+    ensures { MatchOption result (exceeding x y z ≡ 3) (λ e. (e ≡ exceeding x y z) × (e < 3)) }
 {
     if is_above(x, y, z) {
-        return 0;
+        return Some(0);
     }
     if is_above(y, z, x) {
-        return 1;
+        return Some(1);
     }
     if is_above(z, x, y) {
-        return 2;
+        return Some(2);
     }
-    3
+    None
 }
 
 // How many loops the nest on edge e has: half of what its pair has above another.
@@ -90,53 +90,36 @@ fn corner_on(six: [u16; 6], e: usize) -> usize
 // The nest on edge e, whose pair exceeds the others, of a cell in which only rule 1 is met.
 fn nest_on(c: Cell, six: [u16; 6], e: usize) -> Nest
     requires { NestOn c six e }
-    ensures { IsNest c result }
+    ensures { NestOf c result }
 {
     let m = count_on(six, e);
     let own = corner_on(six, e);
     let start = start_of(c, e) as usize;
     Nest {
         edge: e,
-        count: m,
+        count: m as u32,
         low: start + own + m,
     }
 }
 
-// No nest.
-fn no_nest() -> Nest
-    ensures { (result.edge ≡ 3) × (result.count ≡ 0) }
-{
-    Nest {
-        edge: 3,
-        count: 0,
-        low: 0,
-    }
-}
-
-// The nest of the cell: its edge is 3 where there is none. The sums are looked at first: they alone rule out most cells.
-fn nest_of(c: Cell) -> Nest
+// The nest of the cell, where it has one. The sums are looked at first: they alone rule out most cells.
+fn nest_of(c: Cell) -> Option<Nest>
     ensures { IsNest c result }
 {
     let six = taken_of(c);
-    let e = above_of(pair_of(six, 0), pair_of(six, 1), pair_of(six, 2));
-    if e == 3 {
-        return no_nest();
-    }
+    let e = above_of(pair_of(six, 0), pair_of(six, 1), pair_of(six, 2))?;
     if is_level(six) {
-        return nest_on(c, six, e);
+        return Some(nest_on(c, six, e));
     }
-    no_nest()
+    None
 }
 
 // The same of a cell with n crossings. A nest has 16 or more, so that a cell with fewer is not looked at.
-pub(crate) fn nest_in(c: Cell, n: usize) -> Nest
+pub(crate) fn nest_in(c: Cell, n: usize) -> Option<Nest>
     requires { n ≡ crossings (edges_of c) }
     ensures { IsNest c result }
 {
-    if n < 16 {
-        return no_nest();
-    }
-    nest_of(c)
+    if n < 16 { None } else { nest_of(c) }
 }
 
 // The place of the cell's node at position k.
@@ -189,12 +172,12 @@ fn highest_on(halves: &[u8], points: &[u32], e: usize) -> usize
 
 // The middle of a recorded loop of the nest q.
 pub(crate) fn nested_middle(c: Cell, q: Nest, nodes: &[f64], halves: &[u8], points: &[u32]) -> Place
-    requires { (q.edge < 3) × (q.count < 4294967296) }
+    requires { q.edge < 3 }
     ensures { result ≡ recorded_nested c q nodes.now halves.now points.now }
 {
     let e = q.edge;
     let i = highest_on(halves, points, e).saturating_sub(q.low);
     let a = half_along(c, nodes, e);
     let b = half_along(c, nodes, 5 - e);
-    place::interpolate(a, b, place::part_of(i as u32, q.count as u32))
+    place::interpolate(a, b, place::part_of(i as u32, q.count))
 }

@@ -5,7 +5,7 @@ ghost use Rattle.cell.specs.work.Route.{Routed};
 ghost use Rattle.cell.specs.work.Dart.{IsDartAt, Spot, Ready, AtLow, AtHigh, Turns, Beside, Leads, Onward};
 
 use super::routes::ROUTES;
-use super::{Cell, Dart, Next, routes};
+use super::{Cell, Dart, routes};
 use face::{Stand, stand_of};
 
 // The dart at index u that leaves by half-edge g.
@@ -67,8 +67,8 @@ fn above(c: Cell, routes: &[usize; ROUTES], d: Dart, k: usize) -> Dart
     round(c, routes, d, g, k, 0 < rank)
 }
 
-// What follows a dart, as the face call decides it.
-pub(crate) fn next(c: Cell, routes: &[usize; ROUTES], d: Dart) -> Next
+// What follows a dart, as the face call decides it: another, and whether the segment to it goes along the dart's edge; none at the end of its curve.
+pub(crate) fn next(c: Cell, routes: &[usize; ROUTES], d: Dart) -> Option<(Dart, bool)>
     requires { Ready c routes.now d }
     ensures { Onward (edges_of c) d result }
 {
@@ -78,10 +78,10 @@ pub(crate) fn next(c: Cell, routes: &[usize; ROUTES], d: Dart) -> Next
     let n = routes::route(routes, h, routes::COUNT);
     let high = routes::route(routes, h, routes::HIGH);
     match stand_of(low, n - high, t) {
-        Stand::Low => Next::On(below(c, routes, d), false),
-        Stand::High => Next::On(above(c, routes, d, n - 1 - t), false),
-        Stand::Up => Next::On(beside(c, routes, d, t + 1), true),
-        Stand::Down => Next::On(beside(c, routes, d, t - 1), true),
-        Stand::Alone => Next::End,
+        Stand::Low => Some((below(c, routes, d), false)),
+        Stand::High => Some((above(c, routes, d, n - 1 - t), false)),
+        Stand::Up => Some((beside(c, routes, d, t + 1), true)),
+        Stand::Down => Some((beside(c, routes, d, t - 1), true)),
+        Stand::Alone => None,
     }
 }

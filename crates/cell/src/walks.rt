@@ -9,7 +9,7 @@ ghost use Rattle.cell.specs.work.Route.{Routed};
 ghost use Rattle.cell.specs.work.Walked.{Located, Starts, is_met, Lent, Walked};
 
 use super::routes::ROUTES;
-use super::{Cell, Dart, Next, Trip, half_edges, routes, steps};
+use super::{Cell, Dart, Trip, half_edges, routes, steps};
 
 // The mark of a crossing that no walk has come to.
 const UNMARKED: u16 = 65535;
@@ -109,7 +109,7 @@ pub(crate) fn walk(
         halves[k] = h as u8;
         points[k] = (routes[9 * h + routes::START] + d.index) as u32;
         k += 1;
-        let Next::On(e, along) = steps::next(c, routes, d) else {
+        let Some((e, along)) = steps::next(c, routes, d) else {
             return NO_LOOP;
         };
         normal = still(normal, along);

@@ -1,5 +1,5 @@
 -- A cell's nest, the middle of a recorded loop, and room for the middles of a cell.
-use Rattle.std.specs.Prelude.{ℕ, ◌+◌, ◌-◌, ◌*◌, ◌≤◌, ◌<◌, ◌≡◌, Bool, true, List, [], ◌∷◌, eqb, ltb, length, get_or, Float}
+use Rattle.std.specs.Prelude.{ℕ, ◌+◌, ◌-◌, ◌*◌, ◌≤◌, ◌<◌, ◌≡◌, Bool, true, List, [], ◌∷◌, Option, Some, None, eqb, length, get_or, Float}
 use Rattle.counting.specs.Pick.{pick}
 use Rattle.counting.specs.Lists.{values}
 use Rattle.place.specs.declared.Place.{Place}
@@ -24,24 +24,30 @@ pub record NestOn (c : Cell) (six : List ℕ) (e : ℕ) : Type 0 where
   pub edge_is : e ≡ nest_edge (count_of c)
   pub edge_lt : e < 3
 
--- q is the nest of the cell: its edge, or 3 for none; how many loops it has, few enough to be counted, and the number of the crossing m of that edge
-pub record IsNest (c : Cell) (q : Nest) : Type 0 where
+-- q is the nest of the cell, which has one: its edge; how many loops it has, few enough to be counted, and the number of the crossing m of that edge
+pub record NestOf (c : Cell) (q : Nest) : Type 0 where
   pub edge_is : q.edge ≡ nest_edge (count_of c)
-  pub count_is : q.edge < 3 → q.count ≡ nest_count (count_of c)
-  pub low_is : q.edge < 3 → q.low ≡ nest_low c
+  pub edge_lt : q.edge < 3
+  pub count_is : q.count ≡ nest_count (count_of c)
+  pub low_is : q.low ≡ nest_low c
   pub few : q.count ≤ most_sum
 
+-- the same, where it may have none
+abbrev pub IsNest : Cell → Option Nest → Type 0
+IsNest c (Some q) = NestOf c q
+IsNest c None = nest_edge (count_of c) ≡ 3
+
 -- the middle of a recorded loop of the cell c, by the places of nodes and those of an area's points
-module _ (c : Cell) (q : Nest) (nodes : List Float) (halves points : List ℕ) where
-  unfoldable pub recorded_nested : Place
-  recorded_nested = on_axis (corner_place nodes c) q.edge (highest_on halves points q.edge - q.low) q.count
+unfoldable pub recorded_nested : Cell → Nest → (nodes : List Float) (halves points : List ℕ) → Place
+recorded_nested c q nodes halves points = on_axis (corner_place nodes c) q.edge (highest_on halves points q.edge - q.low) q.count
 
-  unfoldable pub recorded_place : (area : List Float) → Place
-  recorded_place area = pick (ltb q.edge 3) recorded_nested (middle (λ k. place_at area (get_or points k 0)) (length points))
+unfoldable pub recorded_place : Cell → Option Nest → (nodes : List Float) (halves points : List ℕ) (area : List Float) → Place
+recorded_place c (Some q) nodes halves points area = recorded_nested c q nodes halves points
+recorded_place c None nodes halves points area = middle (λ k. place_at area (get_or points k 0)) (length points)
 
-  -- where the loop, normal or not, is drawn as a fan
-  unfoldable pub recorded_middle : (normal : Bool) (area : List Float) → List Place
-  recorded_middle normal area = pick (has_middle (length points) normal) (recorded_place area ∷ []) []
+-- where the loop, normal or not, is drawn as a fan
+unfoldable pub recorded_middle : Cell → Option Nest → (nodes : List Float) (halves points : List ℕ) (normal : Bool) (area : List Float) → List Place
+recorded_middle c q nodes halves points normal area = pick (has_middle (length points) normal) (recorded_place c q nodes halves points area ∷ []) []
 
 -- the cell's middles can be written from point `at` on, and have room there
 pub record MiddlesRoom (c : Cell) (area : List Float) (at : ℕ) : Type 0 where

@@ -1,11 +1,9 @@
 -- Darts in parts: the crossing with index t on the edge of half-edge h, which is crossing x of the cell, left by h.
-use Rattle.std.specs.Prelude.{ℕ, ◌*◌, ◌-◌, ◌<◌, ◌≡◌, Bool, true, false, List}
+use Rattle.std.specs.Prelude.{ℕ, ◌*◌, ◌-◌, ◌<◌, ◌≡◌, Bool, true, false, List, Option, Some, None}
 use Rattle.counting.specs.Pick.{pick}
 use Rattle.slots.specs.Slots.{lower, upper}
 use Rattle.cell.specs.declared.Cell.{Cell}
 use Rattle.cell.specs.declared.Dart.{Dart}
-use Rattle.cell.specs.declared.Next.{Next}
-use Rattle.cell.specs.declared.Next.TheVariants.{On, End}
 use Rattle.cell.specs.Cell.{Edges, number, crossings, step}
 use Rattle.cell.specs.work.Half.{half_edges, twin}
 use Rattle.cell.specs.claims.Half.{rank_of, edge_of, dart_number}
@@ -66,7 +64,7 @@ pub record Leads (w : Edges) (d r : Dart) (along : Bool) : Type 0 where
   pub is : step w (dart_of d) ≡ dart_of r
   pub told : folded w (dart_of d) ≡ along
 
--- what a step from dart d comes to: a dart, or the end of the curve
-abbrev pub Onward : Edges → Dart → Next → Type 0
-Onward w d (On r along) = Leads w d r along
-Onward w d End = step w (dart_of d) ≡ 2 * crossings w
+-- what a step from dart d comes to: a dart, along its edge or not, or the end of the curve
+abbrev pub Onward : Edges → Dart → Option (Dart × Bool) → Type 0
+Onward w d (Some s) = Leads w d s.0 s.1
+Onward w d None = step w (dart_of d) ≡ 2 * crossings w

@@ -6,4 +6,4 @@ pub returns-then-is_below : goal.returns-then-is_below
 returns-then-is_below c = let A = c.args in c.if-is_below.true ∙ sym (below_placeable A.c A.at (sym c.is_below.ensures ∙ c.if-is_below.true))
 
 pub returns-else-is_below : goal.returns-else-is_below
-returns-else-is_below c = let A = c.args in placeable_is A.c A.at c.nest_in.ensures.edge_is (sym c.is_below.ensures ∙ c.if-is_below.false)
+returns-else-is_below c = let A = c.args in c.is_some.ensures ∙ placeable_is A.c A.at c.nest_in.result c.nest_in.ensures (sym c.is_below.ensures ∙ c.if-is_below.false)

@@ -1,12 +1,14 @@
-use native.Mathlib.Omega.{arith}
-use Rattle.cell.proofs.Nesting.{place_nested, place_mean}
+use mathlib.Core.Path.{subst}
+use Rattle.cell.specs.work.Centres.{IsNest, recorded_place}
 use Rattle.cell.proofs.middles.middle_in.Goals as goal
 
 pub nested_middle-requires : goal.nested_middle-requires
-nested_middle-requires c = (c.if-q-lt3.true, omega (arith, c.requires))
+nested_middle-requires c = (subst (IsNest c.args.c) c.in-Some.is c.requires).edge_lt
 
-pub returns-then-q-lt3 : goal.returns-then-q-lt3
-returns-then-q-lt3 c = let a = c.args in place_nested a.c a.q a.nodes.now a.halves.now a.points.now a.area.now c.if-q-lt3.true c.nested_middle.ensures
+pub returns-in-Some : goal.returns-in-Some
+unfolding recorded_place
+returns-in-Some c = rw c.in-Some.is c.nested_middle.ensures
 
-pub returns : goal.returns
-returns c = let a = c.args in place_mean a.c a.q a.nodes.now a.halves.now a.points.now a.area.now (omega arith) c.middle_of.ensures
+pub returns-in-None : goal.returns-in-None
+unfolding recorded_place
+returns-in-None c = rw c.in-None.is c.middle_of.ensures

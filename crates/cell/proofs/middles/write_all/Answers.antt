@@ -30,13 +30,13 @@ slice_bounds-put_middle-end-in-loop-p c = (going_part c.loop-p.invariant.0 (omeg
 pub put_middle-i-requires : goal.put_middle-i-requires
 put_middle-i-requires c = let A = c.args in
     let L = c.loop-p in
-    (c.nest_in-q.ensures.few, middle_room A.nodes.now A.c A.area.now A.at c.requires.middles_room L.i L.invariant.1 (going_looped L.invariant.0 (omega arith) c.walk-w.ensures))
+    record { nest = c.nest_in-q.ensures; room = middle_room A.nodes.now A.c A.area.now A.at c.requires.middles_room L.i L.invariant.1 (going_looped L.invariant.0 (omega arith) c.walk-w.ensures) }
 
 pub loop-p-preserved : goal.loop-p-preserved
 loop-p-preserved c = let A = c.args in
     let L = c.loop-p in (
       going_more L.invariant.0 (omega arith) c.walk-w.ensures,
-      middle_next A.nodes.now A.c A.area.now A.at c.requires.middles_room L.i L.invariant.1 (going_looped L.invariant.0 (omega arith) c.walk-w.ensures) c.nest_in-q.ensures c.put_middle-i.ensures,
+      middle_next A.nodes.now A.c A.area.now A.at c.requires.middles_room L.i L.invariant.1 (going_looped L.invariant.0 (omega arith) c.walk-w.ensures) c.nest_in-q.result c.nest_in-q.ensures c.put_middle-i.ensures,
     )
 
 pub shape_of-marks : goal.shape_of-marks

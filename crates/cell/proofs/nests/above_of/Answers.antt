@@ -13,4 +13,4 @@ pub returns-then-is_above-3 : goal.returns-then-is_above-3
 returns-then-is_above-3 c = (above_third _ _ _ (sym c.is_above.ensures ∙ c.if-is_above.false) (sym c.is_above-2.ensures ∙ c.if-is_above-2.false) (sym c.is_above-3.ensures ∙ c.if-is_above-3.true), omega arith)
 
 pub returns : goal.returns
-returns c = (above_none _ _ _ (sym c.is_above.ensures ∙ c.if-is_above.false) (sym c.is_above-2.ensures ∙ c.if-is_above-2.false) (sym c.is_above-3.ensures ∙ c.if-is_above-3.false), omega arith)
+returns c = sym (above_none _ _ _ (sym c.is_above.ensures ∙ c.if-is_above.false) (sym c.is_above-2.ensures ∙ c.if-is_above-2.false) (sym c.is_above-3.ensures ∙ c.if-is_above-3.false))

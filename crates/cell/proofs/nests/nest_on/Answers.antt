@@ -11,6 +11,9 @@ corner_on-own-requires c = c.requires.edge_lt
 pub start_of-start-requires : goal.start_of-start-requires
 start_of-start-requires c = omega (arith, c.requires.edge_lt)
 
+pub overflow_cast-result : goal.overflow_cast-result
+overflow_cast-result c = omega (arith, c.count_on-m.ensures.1)
+
 pub overflow_add-result : goal.overflow_add-result
 overflow_add-result c = omega (arith, c.corner_on-own.ensures.1, c.count_on-m.ensures.1)
 
@@ -20,7 +23,8 @@ overflow_add-result-2 c = omega (arith, c.corner_on-own.ensures.1, c.count_on-m.
 pub returns : goal.returns
 returns c = record {
   edge_is = c.requires.edge_is;
-  count_is = λ l. on_count c.requires c.count_on-m.ensures.0;
-  low_is = λ l. on_low c.requires c.start_of-start.ensures c.corner_on-own.ensures.0 c.count_on-m.ensures.0;
+  edge_lt = c.requires.edge_lt;
+  count_is = on_count c.requires c.count_on-m.ensures.0;
+  low_is = on_low c.requires c.start_of-start.ensures c.corner_on-own.ensures.0 c.count_on-m.ensures.0;
   few = c.count_on-m.ensures.1;
 }

@@ -3,7 +3,7 @@ use Rattle.cell.proofs.Nesting.{nested_by}
 use Rattle.cell.proofs.nests.nested_middle.Goals as goal
 
 pub half_along-a-requires : goal.half_along-a-requires
-half_along-a-requires c = omega (arith, c.requires.0)
+half_along-a-requires c = omega (arith, c.requires)
 
 pub overflow_cast-i : goal.overflow_cast-i
 overflow_cast-i c = omega (arith, c.saturating_sub-i.ensures, c.highest_on.ensures.1)

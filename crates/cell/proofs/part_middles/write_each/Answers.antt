@@ -28,7 +28,7 @@ loop-p-preserved-then-fan_of-eq0 c = let A = c.args in
     let K = going_looped L.invariant.0 (omega arith) c.walk-w.ensures in
     let f = c.fan_of in (
       going_more L.invariant.0 (omega arith) c.walk-w.ensures,
-      middle_next A.nodes.now A.c A.area.now A.at c.requires.middles_room L.i L.invariant.1 K c.nest_in-q.ensures
+      middle_next A.nodes.now A.c A.area.now A.at c.requires.middles_room L.i L.invariant.1 K c.nest_in-q.result c.nest_in-q.ensures
           (put_none A.c c.nest_in-q.result A.nodes.now _ _ _ L.area L.i f.result (fan_recorded K f.ensures) c.if-fan_of-eq0.true),
     )
 
@@ -39,7 +39,7 @@ pub slice_bounds-middle_in-end-in-loop-p : goal.slice_bounds-middle_in-end-in-lo
 slice_bounds-middle_in-end-in-loop-p c = (going_part c.loop-p.invariant.0 (omega arith) c.walk-w.ensures).1
 
 pub middle_in-v-requires : goal.middle_in-v-requires
-middle_in-v-requires c = c.nest_in-q.ensures.few
+middle_in-v-requires c = c.nest_in-q.ensures
 
 pub overflow_add-i : goal.overflow_add-i
 overflow_add-i c = let A = c.args in
@@ -54,7 +54,7 @@ loop-p-preserved c = let A = c.args in
     let K = going_looped L.invariant.0 (omega (arith, c.loop-p-test)) c.walk-w.ensures in
     let f = c.fan_of in (
       going_more L.invariant.0 (omega (arith, c.loop-p-test)) c.walk-w.ensures,
-      middle_next A.nodes.now A.c A.area.now A.at R L.i L.invariant.1 K c.nest_in-q.ensures
+      middle_next A.nodes.now A.c A.area.now A.at R L.i L.invariant.1 K c.nest_in-q.result c.nest_in-q.ensures
           (put_one A.c c.nest_in-q.result A.nodes.now _ _ _ L.area L.i f.result (fan_recorded K f.ensures) c.if-fan_of-eq0.false
           (middle_room A.nodes.now A.c A.area.now A.at R L.i L.invariant.1 K) c.middle_in-v.ensures c.store.ensures),
     )

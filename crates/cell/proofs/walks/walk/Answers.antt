@@ -75,10 +75,10 @@ pub shape_of-points-then-x-p : goal.shape_of-points-then-x-p
 shape_of-points-then-x-p c = simp length-set c.loop-e.invariant.used.points_kept.long
 
 pub returns-then-x-p : goal.returns-then-x-p
-returns-then-x-p c = recording_home c.requires c.loop-e.invariant (onward_on c.next.ensures c.in-On.is) c.still-normal.ensures c.if-x-p.true
+returns-then-x-p c = recording_home c.requires c.loop-e.invariant (onward_on c.next.ensures c.in-Some.is) c.still-normal.ensures c.if-x-p.true
 
 pub met-requires-in-loop-e : goal.met-requires-in-loop-e
-met-requires-in-loop-e c = (recording_lt c.requires c.loop-e.invariant (onward_on c.next.ensures c.in-On.is)).0
+met-requires-in-loop-e c = (recording_lt c.requires c.loop-e.invariant (onward_on c.next.ensures c.in-Some.is)).0
 
 pub shape_of-marks-then-met-2 : goal.shape_of-marks-then-met-2
 shape_of-marks-then-met-2 c = c.loop-e.invariant.used.marks_kept.long
@@ -90,19 +90,19 @@ pub shape_of-points-then-met-2 : goal.shape_of-points-then-met-2
 shape_of-points-then-met-2 c = simp length-set c.loop-e.invariant.used.points_kept.long
 
 pub returns-then-met-2 : goal.returns-then-met-2
-returns-then-met-2 c = recording_met c.requires c.loop-e.invariant (onward_on c.next.ensures c.in-On.is) (sym c.met-in-loop-e.ensures ∙ c.if-met-2.true)
+returns-then-met-2 c = recording_met c.requires c.loop-e.invariant (onward_on c.next.ensures c.in-Some.is) (sym c.met-in-loop-e.ensures ∙ c.if-met-2.true)
 
 pub overflow_cast-marks : goal.overflow_cast-marks
 overflow_cast-marks c = omega (arith, c.requires.inside, c.requires.all, c.requires.routed.few)
 
 pub offset_bounds-marks-x : goal.offset_bounds-marks-x
-offset_bounds-marks-x c = omega (arith, recording_lt c.requires c.loop-e.invariant (onward_on c.next.ensures c.in-On.is))
+offset_bounds-marks-x c = omega (arith, recording_lt c.requires c.loop-e.invariant (onward_on c.next.ensures c.in-Some.is))
 
 pub bounds-marks-x : goal.bounds-marks-x
-bounds-marks-x c = omega (arith, recording_lt c.requires c.loop-e.invariant (onward_on c.next.ensures c.in-On.is))
+bounds-marks-x c = omega (arith, recording_lt c.requires c.loop-e.invariant (onward_on c.next.ensures c.in-Some.is))
 
 pub loop-e-smaller : goal.loop-e-smaller
 loop-e-smaller c = omega (arith, (recording_long c.requires c.loop-e.invariant).0)
 
 pub loop-e-preserved : goal.loop-e-preserved
-loop-e-preserved c = recording_on c.requires c.loop-e.invariant (onward_on c.next.ensures c.in-On.is) c.still-normal.ensures (omega (arith, met_above _ _ _ (sym c.met-in-loop-e.ensures ∙ c.if-met-2.false), c.if-x-p.false))
+loop-e-preserved c = recording_on c.requires c.loop-e.invariant (onward_on c.next.ensures c.in-Some.is) c.still-normal.ensures (omega (arith, met_above _ _ _ (sym c.met-in-loop-e.ensures ∙ c.if-met-2.false), c.if-x-p.false))
