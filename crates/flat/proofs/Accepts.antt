@@ -18,15 +18,12 @@ use Rattle.answer.specs.Answer.{is_result, result_of}
 use Rattle.answer.specs.Rows.{whole, Clear}
 use Rattle.answer.specs.claims.Faults.{AllClear, row_at}
 use Rattle.answer.specs.work.Faults.{numbered, since}
-use Rattle.answer.proofs.Answer.{mixed, refusals}
-use Rattle.answer.proofs.Rows.{answer_some, clear_answer, clear_or_refusal, clear_since, refusal_answer, refused_by, result_clear, result_is}
+use Rattle.answer.proofs.Numbers.{answer_tells}
+use Rattle.answer.proofs.Rows.{clear_answer, clear_or_refusal, clear_since, refusal_answer, refused_by, result_clear, result_is}
 use Rattle.slots.specs.Limits.{most_count, highest_node, most_crossings}
 use Rattle.slots.specs.Slots.{lower, upper}
 use Rattle.grid.specs.Grid.{Before, count_of, crossings, high, joins, low}
 use Rattle.grid.specs.Rows.{bad_count, bad_edge, too_many}
-use Rattle.grid.specs.Check.{check_numbers}
-use Rattle.grid.specs.declared.Checked.{Checked}
-use Rattle.grid.specs.declared.Checked.TheVariants.{Crossings, Refused}
 use Rattle.grid.proofs.Sorted.{before_not, before_same, clear_edge, edge-ends, same-edge, sorted_edges}
 use Rattle.flat.specs.FlatGrid.{FlatGrid, edge_number, has_edge, is_edge, most_flat_triangles, node, same_edge, shares, triangles_in}
 use Rattle.flat.specs.Rows.{accepts, bad_length, bad_pairs, bad_triangle, crowded, flat_answer, repeats, rows, same_triangle, unlisted, unused}
@@ -324,21 +321,10 @@ pub accepts_or_refuses : AcceptsOrRefuses
 unfolding flat_answer
 accepts_or_refuses G = ⊎_elim (λ (h : AllClear (rows G)). inl (clear_answer (rows G) (result_of (crossings G.counts ∷ [])) h)) inr (clear_or_refusal (rows G))
 
--- there is always an answer
-pub never_empty : (G : FlatGrid) → [] ≡ flat_answer G → ⊥
-unfolding flat_answer
-never_empty G q = answer_some (rows G) (crossings G.counts ∷ []) q
-
 -- an answer that is a result is the number of crossings
 pub accepted_is : (G : FlatGrid) → accepts G ≡ true → flat_answer G ≡ result_of (crossings G.counts ∷ [])
 unfolding flat_answer
 accepted_is G h = result_is (rows G) (crossings G.counts ∷ []) (rows_numbered G) h
 
 pub answer_told : AnswerTold
-answer_told G = go
-  where
-    go : (r s : Checked) → check_numbers r ≡ flat_answer G → check_numbers s ≡ flat_answer G → r ≡ s
-    go (Crossings n) (Crossings m) a b = let x : n ≡ m = cc in rw x
-    go (Crossings n) (Refused k p) a b = absurd (mixed (flat_answer G) (never_empty G) k p (n ∷ []) a b)
-    go (Refused k p) (Crossings n) a b = absurd (mixed (flat_answer G) (never_empty G) k p (n ∷ []) b a)
-    go (Refused k p) (Refused l q) a b = let (x, y) = refusals (flat_answer G) (never_empty G) k p l q a b in rw (x, y)
+answer_told G r s a b = answer_tells (λ n. n ∷ []) (λ x y e. cc) r s (a ∙ sym b)

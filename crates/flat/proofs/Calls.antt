@@ -1,16 +1,18 @@
 -- The chains call, where the check refuses and where it accepts.
+use Rattle.std.specs.Prelude.{Result, Ok, Err}
 use Prim.Native.Nat.{ℕ, ◌*◌, ◌≤◌, ◌<◌}
 use mathlib.Core.Path.{◌≡◌, sym, ap, ◌∙◌, subst}
 use mathlib.Core.Bool.{false, true}
 use mathlib.Core.List.{List, [], ◌∷◌}
 use native.Mathlib.Nat.{zero-add}
 use native.Mathlib.Omega.{arith}
-use lib.Dec.{leb}
 use lib.ListN.{get_or, length}
 use lib.Seq.{ext_get_or, sets}
 use borrow.Author.Tests.{le-leb, lt-leb}
-use Rattle.answer.specs.Answer.{refusal, refused, result_of}
-use Rattle.answer.proofs.Answer.{mixed, no_nil, pick_some, refusals, refused_not}
+use Rattle.answer.specs.Answer.{refusal, result_of}
+use Rattle.answer.specs.Refusal.{refusal_numbers}
+use Rattle.answer.specs.declared.Refusal.{Refusal}
+use Rattle.answer.proofs.Numbers.{refusal_not, answer_tells}
 use Rattle.counting.specs.Lists.{values}
 use Rattle.counting.specs.Stored.{filled}
 use Rattle.counting.proofs.Tables.{filled_table}
@@ -21,8 +23,6 @@ use Rattle.grid.specs.Check.{check_numbers}
 use Rattle.grid.specs.Grid.{crossings}
 use Rattle.counting.specs.work.Tables.{Table}
 use Rattle.grid.specs.work.Work.{WhereAccepted}
-use Rattle.grid.specs.declared.Checked.{Checked}
-use Rattle.grid.specs.declared.Checked.TheVariants.{Crossings, Refused}
 use Rattle.flat.specs.FlatGrid.{FlatGrid, triangles_in}
 use Rattle.flat.specs.Rows.{accepts, flat_answer}
 use Rattle.flat.specs.Accepted.{Accepted}
@@ -31,28 +31,25 @@ use Rattle.flat.specs.Chain.{all_chain_words}
 use Rattle.flat.specs.Chains.{chains_words, step}
 use Rattle.flat.specs.claims.Claims.{ChainsTold}
 use Rattle.flat.specs.Done.{Done}
-use Rattle.flat.specs.Numbers.{traced_numbers}
-use Rattle.flat.specs.declared.Traced.{Traced}
-use Rattle.flat.specs.declared.Traced.TheVariants as traced
 use Rattle.flat.specs.work.Work.{StepTable, SidesKnown, TracedIn, step_in, dart_step}
-use Rattle.flat.proofs.Accepts.{acceptance_yields, accepted_answer, never_empty}
+use Rattle.flat.proofs.Accepts.{acceptance_yields, accepted_answer}
 use Rattle.flat.proofs.Ports.{grid_darts, segments_hold, step_moves}
 use Rattle.flat.proofs.Room.{words_room}
 use Rattle.flat.proofs.Stepped.{along_step, linked}
 
 module _ (G : FlatGrid) where
-  module _ (r : Checked) (row place : ℕ) (e : r ≡ Refused row place) (q : check_numbers r ≡ flat_answer G) where
-    is_refusal : check_numbers (Refused row place) ≡ flat_answer G
+  module _ (r : Result ℕ Refusal) (f : Refusal) (e : r ≡ Err f) (q : check_numbers r ≡ flat_answer G) where
+    is_refusal : refusal_numbers f ≡ flat_answer G
     is_refusal = ap check_numbers (sym e) ∙ q
 
     keeps : accepts G ≡ false
-    keeps = refused_not (flat_answer G) (never_empty G) row place is_refusal
+    keeps = rw (← is_refusal) (refusal_not f)
 
-    pub refused_done : (area : List ℕ) → Done G area area (refused row place)
+    pub refused_done : (area : List ℕ) → Done G area area (refusal_numbers f)
     unfolding chains_answer chains_area
     refused_done area = record { answered = rw keeps is_refusal; area = rw keeps; segments = segments_hold }
 
-  module _ (r : Checked) (n : ℕ) (e : r ≡ Crossings n) (q : check_numbers r ≡ flat_answer G) where
+  module _ (r : Result ℕ Refusal) (n : ℕ) (e : r ≡ Ok n) (q : check_numbers r ≡ flat_answer G) where
     is-result : flat_answer G ≡ result_of (n ∷ [])
     is-result = sym q ∙ ap check_numbers e
 
@@ -134,20 +131,6 @@ module _ (G : FlatGrid) (A : Accepted G) (sides : List ℕ) (S : SidesKnown G si
     pub made_fits : (area : List ℕ) {after : List ℕ} → m ≤ length area → after ≡ filled (λ i. get_or made i 0) m area → TracedIn G area after (result_of (m ∷ []))
     made_fits area h r = room_fits G area m made_count h (copied (chains_words G) list made area (e ∙ ap (sets list 0) words_are) (omega (arith, made_few, made_count)) made_count r)
 
--- there is always an answer, and it is read from one value alone
-module _ (G : FlatGrid) (room : ℕ) where
-  pub chains_some : [] ≡ chains_answer G room → ⊥
-  unfolding chains_answer words_answer
-  chains_some =
-      pick_some (accepts G) (words_answer (length (chains_words G)) room) (flat_answer G)
-      (pick_some (leb (length (chains_words G)) room) (result_of (length (chains_words G) ∷ [])) (refusal 24 (length (chains_words G))) no_nil no_nil)
-      (never_empty G)
-
+-- the answer is read from one value alone
 pub chains_told : ChainsTold
-chains_told G room = go
-  where
-    go : (r s : Traced) → traced_numbers r ≡ chains_answer G room → traced_numbers s ≡ chains_answer G room → r ≡ s
-    go (traced.Words n) (traced.Words m) a b = let x : n ≡ m = cc in rw x
-    go (traced.Words n) (traced.Refused k p) a b = absurd (mixed (chains_answer G room) (chains_some G room) k p (n ∷ []) a b)
-    go (traced.Refused k p) (traced.Words n) a b = absurd (mixed (chains_answer G room) (chains_some G room) k p (n ∷ []) b a)
-    go (traced.Refused k p) (traced.Refused l q) a b = let (x, y) = refusals (chains_answer G room) (chains_some G room) k p l q a b in rw (x, y)
+chains_told G room r s a b = answer_tells (λ n. n ∷ []) (λ x y e. cc) r s (a ∙ sym b)

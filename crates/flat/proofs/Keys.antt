@@ -1,4 +1,8 @@
 -- Triangles and their edges by keys: rows 1, 3, 4 and 5.
+use Rattle.std.specs.Prelude.{Option, Some, None, position, option_map}
+use Rattle.std.proofs.lemmas.List.{get_or-take, length-take-le}
+use Rattle.std.proofs.Common.{take}
+use Rattle.counting.proofs.Positions.{position_found}
 use Prim.Native.Nat.{ℕ, ◌%◌, ◌*◌, ◌+◌, ◌-◌, ◌/◌, ◌<◌, ◌≤◌, min}
 use mathlib.Core.Path.{◌∙◌, ◌≡◌, ap, refl, sym}
 use mathlib.Core.Logic.{◌≢◌}
@@ -13,9 +17,9 @@ use borrow.Author.Tests.{eq-eqb, eqb-true, le-leb, le-ltb, lt-leb, lt-ltb, ltb-f
 use Rattle.counting.specs.Pick.{pick}
 use Rattle.counting.specs.Lists.{over, values}
 use Rattle.counting.specs.Stored.{filled}
-use Rattle.counting.specs.Search.{count, every, first, last, some}
+use Rattle.counting.specs.Search.{count, every, first, found, last, some}
 use Rattle.counting.proofs.Bools.{or_right}
-use Rattle.counting.proofs.Search.{AtMostOne, count_blocks, count_ext, count_none, count_plus, count_two, count_zero, first_blocks, first_ext, first_none, last_is, last_le, some_ext, some_found, some_last}
+use Rattle.counting.proofs.Search.{AtMostOne, count_blocks, count_ext, count_none, count_plus, count_two, count_zero, first_blocks, first_ext, first_found, first_none, found_first, found_none, none_found, last_is, last_le, some_ext, some_found, some_last}
 use Rattle.counting.proofs.Stored.{sets_more}
 use Rattle.slots.specs.Slots.{lower, upper}
 use Rattle.face.specs.claims.Ends.{Edge, on_ab, on_ac, on_bc}
@@ -235,3 +239,23 @@ twice_miss prev j {p} q h = rw (← q, eq-eqb (get_or prev (p - 1) 0) 0 h) (go (
     go : (b : Bool) → pick b false false ≡ false
     go true = refl
     go false = refl
+
+-- searches with the same first number find the same
+pub found_same : (t u : ℕ → Bool) (n : ℕ) → first t n ≡ first u n → found t n ≡ found u n
+unfolding found
+found_same t u n e = ap (λ k. pick (ltb k n) (Some k) None) e
+
+-- the first of these places with an entry
+pub entry_found : (prev : List ℕ) (n : ℕ) → n ≤ length prev → position (λ p. not (eqb p 0)) (take n prev) ≡ found (λ j. not (eqb (get_or prev j 0) 0)) n
+entry_found prev n h =
+    let l : length (take n prev) ≡ n = length-take-le n prev h in
+    position_found (λ p. not (eqb p 0)) (take n prev) 0 ∙ ap (found (λ j. not (eqb (get_or (take n prev) j 0) 0))) l
+    ∙ found_same _ _ n (first_ext _ _ n (λ j k. ap (λ p. not (eqb p 0)) (get_or-take n prev j 0 k)))
+
+-- the block of the first place found
+pub block_found : (t u : ℕ → Bool) (n : ℕ) (o : Option ℕ) → o ≡ found t (3 * n) → first t (3 * n) / 3 ≡ first u n → option_map (λ j. j / 3) o ≡ found u n
+block_found t u n (Some j) e q =
+    let (f, h) = found_first t (3 * n) j e in
+    let p : first u n ≡ j / 3 = sym q ∙ ap (λ x. x / 3) (sym f) in
+    ap Some (sym p) ∙ first_found u n (omega arith)
+block_found t u n None e q = none_found u n (omega (arith, found_none t (3 * n) e))

@@ -1,4 +1,5 @@
 pub mod FlatGrid
+pub mod Lent
 pub mod Rows
 pub mod Accepted
 pub mod Join

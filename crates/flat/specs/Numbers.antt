@@ -1,9 +1,7 @@
--- The answer of the chains call, as numbers (02, W11).
-use Rattle.std.specs.Prelude.{ℕ, List, [], ◌∷◌}
-use Rattle.answer.specs.Answer.{result_of, refused}
-use Rattle.flat.specs.declared.Traced.{Traced}
-use Rattle.flat.specs.declared.Traced.TheVariants.{Words, Refused}
+-- The answer of the chains call, as numbers (02, W11): a result has the number of words.
+use Rattle.std.specs.Prelude.{ℕ, List, [], ◌∷◌, Result}
+use Rattle.answer.specs.Refusal.{answer_numbers}
+use Rattle.answer.specs.declared.Refusal.{Refusal}
 
-abbrev pub traced_numbers : Traced → List ℕ
-traced_numbers (Words n) = result_of (n ∷ [])
-traced_numbers (Refused row place) = refused row place
+abbrev pub traced_numbers : Result ℕ Refusal → List ℕ
+traced_numbers = answer_numbers (λ words. words ∷ [])

@@ -1,6 +1,6 @@
 // The check of a flat grid, row by row.
-ghost use Rattle.std.specs.Prelude.{◌≡◌, [], ◌∷◌, ◌-◌, ◌≤◌, eqb, length, get_or, replicate};
-ghost use Rattle.counting.specs.Search.{first};
+ghost use Rattle.std.specs.Prelude.{◌≡◌, ℕ, [], ◌∷◌, ◌-◌, ◌<◌, ◌≤◌, eqb, length, get_or, replicate, unwrap_or};
+ghost use Rattle.counting.specs.Search.{found};
 ghost use Rattle.counting.specs.Stored.{filled};
 ghost use Rattle.answer.specs.Answer.{result_of};
 ghost use Rattle.answer.specs.Rows.{whole, answer_of};
@@ -8,131 +8,119 @@ ghost use Rattle.grid.specs.Check.{check_numbers};
 ghost use Rattle.grid.specs.Grid.{crossings};
 ghost use Rattle.grid.specs.Rows.{too_many};
 ghost use Rattle.grid.specs.work.Work.{WhereAccepted};
-ghost use Rattle.flat.specs.FlatGrid.{flat_of};
+ghost use Rattle.flat.specs.Lent.{lent};
 ghost use Rattle.flat.specs.work.Work.{most_sides, SidesKnown, answer_from, PastRow2, PastRow3};
 ghost use Rattle.flat.specs.Rows.{bad_pairs, flat_answer};
 
-use crate::{MOST_SIDES, triangles};
-use grid::{Checked, MOST_CROSSINGS};
+use crate::{FlatGrid, MOST_SIDES, triangles};
+use answer::{Refusal, Row};
+use grid::MOST_CROSSINGS;
 
 fn row_2(edges: &[u16], counts: &[u16]) -> bool
-    ensures { result ≡ bad_pairs edges.now counts.now }
+    ensures value { result ≡ bad_pairs edges.now counts.now }
+    ensures small { (i : ℕ) → get_or edges.now i 0 < 65536 }
 {
     edges.len() != 2 * counts.len()
 }
 
 // Row 10.
-fn last_row(counts: &[u16]) -> Checked
+fn last_row(counts: &[u16]) -> Result<u32, Refusal>
     ensures { check_numbers result ≡ answer_of (whole 10 (too_many counts.now) ∷ []) (result_of (crossings counts.now ∷ [])) }
 {
     let s = grid::total(counts);
     if MOST_CROSSINGS < s {
-        return Checked::Refused(10, 0);
+        return Err(Row::Crossings.at(0));
     }
-    Checked::Crossings(s)
+    Ok(s)
 }
 
-// The lowest of the first n places with the entry 0; n where there is none. Takes 1 off the entries before it.
-fn lower_entries(sides: &mut [usize], n: usize) -> usize
+// The lowest of the first n places with the entry 0. Takes 1 off the entries before it.
+fn lower_entries(sides: &mut [usize], n: usize) -> Option<usize>
     requires { n ≤ length sides.old }
-    ensures result_value { result ≡ first (λ j. eqb (get_or sides.old j 0) 0) n }
-    ensures sides_after { sides.new ≡ filled (λ j. get_or sides.old j 0 - 1) result sides.old }
+    ensures result_value { result ≡ found (λ j. eqb (get_or sides.old j 0) 0) n }
+    ensures sides_after { sides.new ≡ filled (λ j. get_or sides.old j 0 - 1) (unwrap_or result n) sides.old }
 {
-    let mut j = 0;
-    while j < n {
+    for j in 0..n {
         let p = sides[j];
         if p == 0 {
-            return j;
+            return Some(j);
         }
         sides[j] = p - 1;
-        j += 1;
     }
-    n
+    None
 }
 
 // Rows 7 and 8, and the one after them. Keeps 48 KB on the stack, and `edge_places` 52.
-fn side_rows(triangles: &[u16], edges: &[u16], counts: &[u16], sides: &mut [usize]) -> Checked
-    requires { PastRow3 (flat_of triangles.now edges.now counts.now) sides.old }
-    ensures result_value { check_numbers result ≡ answer_from 7 (flat_of triangles.now edges.now counts.now) }
-    ensures where_accepted { WhereAccepted result (SidesKnown (flat_of triangles.now edges.now counts.now) sides.new) }
+fn side_rows(grid: FlatGrid, sides: &mut [usize]) -> Result<u32, Refusal>
+    requires { PastRow3 (lent grid) sides.old }
+    ensures result_value { check_numbers result ≡ answer_from 7 (lent grid.entry) }
+    ensures where_accepted { WhereAccepted result (SidesKnown (lent grid.entry) sides.new) }
 {
-    let f = triangles.len() / 3;
+    let n = 3 * (grid.triangles.len() / 3);
     let mut keys = [0usize; MOST_SIDES];
-    triangles::side_keys(triangles, &mut keys);
-    let p8 = grid::edge_places(edges, &keys, 3 * f, sides);
-    let p7 = lower_entries(sides, 3 * f) / 3;
-    if p7 < f {
-        return Checked::Refused(7, p7);
+    triangles::side_keys(grid.triangles, &mut keys);
+    let p8 = grid::edge_places(grid.edges, &keys, n, sides);
+    if let Some(j) = lower_entries(sides, n) {
+        return Err(Row::EdgeMissing.at(j / 3));
     }
-    if p8 < counts.len() {
-        return Checked::Refused(8, p8);
+    if p8 < grid.counts.len() {
+        return Err(Row::EdgeStray.at(p8));
     }
-    last_row(counts)
+    last_row(grid.counts)
 }
 
 // Rows 6 and 18, and those after them.
-fn edge_rows(triangles: &[u16], edges: &[u16], counts: &[u16], sides: &mut [usize]) -> Checked
-    requires { PastRow3 (flat_of triangles.now edges.now counts.now) sides.old }
-    ensures result_value { check_numbers result ≡ answer_from 6 (flat_of triangles.now edges.now counts.now) }
-    ensures where_accepted { WhereAccepted result (SidesKnown (flat_of triangles.now edges.now counts.now) sides.new) }
+fn edge_rows(grid: FlatGrid, sides: &mut [usize]) -> Result<u32, Refusal>
+    requires { PastRow3 (lent grid) sides.old }
+    ensures result_value { check_numbers result ≡ answer_from 6 (lent grid.entry) }
+    ensures where_accepted { WhereAccepted result (SidesKnown (lent grid.entry) sides.new) }
 {
-    let p6 = grid::edge_order(edges);
-    if p6 < counts.len() {
-        return Checked::Refused(6, p6);
+    if let Some(e) = grid::edge_order(grid.edges) {
+        return Err(Row::EdgeOrder.at(e));
     }
-    let p18 = grid::row_18(counts);
-    if p18 < counts.len() {
-        return Checked::Refused(18, p18);
+    if let Some(e) = grid::row_18(grid.counts) {
+        return Err(Row::Count.at(e));
     }
-    side_rows(triangles, edges, counts, sides)
+    side_rows(grid, sides)
 }
 
 // Rows 3, 4 and 5, and those after them.
-fn triangle_rows(triangles: &[u16], edges: &[u16], counts: &[u16], sides: &mut [usize]) -> Checked
-    requires { PastRow2 (flat_of triangles.now edges.now counts.now) sides.old }
-    ensures result_value { check_numbers result ≡ answer_from 3 (flat_of triangles.now edges.now counts.now) }
-    ensures where_accepted { WhereAccepted result (SidesKnown (flat_of triangles.now edges.now counts.now) sides.new) }
+fn triangle_rows(grid: FlatGrid, sides: &mut [usize]) -> Result<u32, Refusal>
+    requires { PastRow2 (lent grid) sides.old }
+    ensures result_value { check_numbers result ≡ answer_from 3 (lent grid.entry) }
+    ensures where_accepted { WhereAccepted result (SidesKnown (lent grid.entry) sides.new) }
 {
-    let n = triangles.len() / 3;
-    let p3 = triangles::row_3(triangles);
-    if p3 < n {
-        return Checked::Refused(3, p3);
+    if let Some(f) = triangles::row_3(grid.triangles) {
+        return Err(Row::CellNodes.at(f));
     }
-    let p4 = triangles::row_4(triangles);
-    if p4 < n {
-        return Checked::Refused(4, p4);
+    if let Some(f) = triangles::row_4(grid.triangles) {
+        return Err(Row::CellRepeated.at(f));
     }
-    let p5 = triangles::row_5(triangles);
-    if p5 < n {
-        return Checked::Refused(5, p5);
+    if let Some(f) = triangles::row_5(grid.triangles) {
+        return Err(Row::FaceCrowded.at(f));
     }
-    edge_rows(triangles, edges, counts, sides)
+    edge_rows(grid, sides)
 }
 
 // All rows. Where the flat grid is accepted, sides has the numbers of the triangles' edges.
-pub(crate) fn all_rows(
-    triangles: &[u16],
-    edges: &[u16],
-    counts: &[u16],
-    sides: &mut [usize],
-) -> Checked
+pub(crate) fn all_rows(grid: FlatGrid, sides: &mut [usize]) -> Result<u32, Refusal>
     requires { sides.old ≡ replicate most_sides 0 }
-    ensures result_value { check_numbers result ≡ flat_answer (flat_of triangles.now edges.now counts.now) }
-    ensures where_accepted { WhereAccepted result (SidesKnown (flat_of triangles.now edges.now counts.now) sides.new) }
+    ensures result_value { check_numbers result ≡ flat_answer (lent grid.entry) }
+    ensures where_accepted { WhereAccepted result (SidesKnown (lent grid.entry) sides.new) }
 {
-    if triangles::row_1(triangles) {
-        return Checked::Refused(1, 0);
+    if triangles::row_1(grid.triangles) {
+        return Err(Row::CellList.at(0));
     }
-    if row_2(edges, counts) {
-        return Checked::Refused(2, 0);
+    if row_2(grid.edges, grid.counts) {
+        return Err(Row::EdgeList.at(0));
     }
-    triangle_rows(triangles, edges, counts, sides)
+    triangle_rows(grid, sides)
 }
 
 // The check of a flat grid. Keeps 172 KB on the stack, with what its functions keep.
-pub fn check(triangles: &[u16], edges: &[u16], counts: &[u16]) -> Checked
-    ensures { check_numbers result ≡ flat_answer (flat_of triangles.now edges.now counts.now) }
+pub fn check(grid: FlatGrid) -> Result<u32, Refusal>
+    ensures { check_numbers result ≡ flat_answer (lent grid.entry) }
 {
     let mut sides = [0usize; MOST_SIDES];
-    all_rows(triangles, edges, counts, &mut sides)
+    all_rows(grid, &mut sides)
 }

@@ -1,22 +1,27 @@
 use mathlib.Core.Path.{refl}
-use Rattle.flat.specs.FlatGrid.{flat_of}
+use Rattle.std.proofs.lemmas.Result.{err_from_is_err_and}
+use Rattle.flat.specs.Lent.{lent}
 use Rattle.flat.proofs.Calls.{refused_done, told_accepted, told_number, told_sides, traced_done}
 use Rattle.flat.proofs.chains.Goals as goal
 
 pub all_rows-requires : goal.all_rows-requires
 all_rows-requires c = refl
 
+pub returns-in_err-n : goal.returns-in_err-n
+returns-in_err-n c =
+    let p = err_from_is_err_and c.from_residual.result c.from_residual.ensures.1 in
+    rw (p.1, p.2) (refused_done (lent c.args.grid) c.all_rows.result _ c.in_err-n.was c.all_rows.ensures.result_value _)
+
 pub trace-requires : goal.trace-requires
-trace-requires c = let c-all-rows = c.all_rows in
-    let c-args = c.args in
-    record { accepted = told_accepted (flat_of c-args.triangles.now c-args.edges.now c-args.counts.now) c-all-rows.result _ c.in-Crossings.is c-all-rows.ensures.result_value; sides_known = told_sides (flat_of c-args.triangles.now c-args.edges.now c-args.counts.now) c-all-rows.result _ c.in-Crossings.is c-all-rows.ensures.result_value _ c-all-rows.ensures.where_accepted; n_value = told_number (flat_of c-args.triangles.now c-args.edges.now c-args.counts.now) c-all-rows.result _ c.in-Crossings.is c-all-rows.ensures.result_value }
+trace-requires c =
+    let r = c.all_rows in
+    let w = c.in_ok-n.was in
+    let q = r.ensures.result_value in
+    record {
+      accepted = told_accepted (lent c.args.grid) r.result _ w q;
+      sides_known = told_sides (lent c.args.grid) r.result _ w q _ r.ensures.where_accepted;
+      n_value = told_number (lent c.args.grid) r.result _ w q;
+    }
 
-pub returns-in-Refused : goal.returns-in-Refused
-returns-in-Refused c = let c-all-rows = c.all_rows in
-    let c-args = c.args in
-    refused_done (flat_of c-args.triangles.now c-args.edges.now c-args.counts.now) c-all-rows.result _ _ c.in-Refused.is c-all-rows.ensures.result_value _
-
-pub returns-in-Crossings : goal.returns-in-Crossings
-returns-in-Crossings c = let c-all-rows = c.all_rows in
-    let c-args = c.args in
-    traced_done (flat_of c-args.triangles.now c-args.edges.now c-args.counts.now) c-all-rows.result _ c.in-Crossings.is c-all-rows.ensures.result_value c.trace.ensures
+pub returns : goal.returns
+returns c = traced_done (lent c.args.grid) c.all_rows.result _ c.in_ok-n.was c.all_rows.ensures.result_value c.trace.ensures

@@ -1,16 +1,15 @@
 -- What is proved of the check of a flat grid, besides the contracts.
-use Rattle.std.specs.Prelude.{ℕ, ◌<◌, ◌≡◌, ◌⊎◌, ◌≢◌, List, [], ◌∷◌, length}
+use Rattle.std.specs.Prelude.{Result, ℕ, ◌<◌, ◌≡◌, ◌⊎◌, ◌≢◌, List, [], ◌∷◌, length}
 use Rattle.flat.specs.FlatGrid.{FlatGrid, triangles_in, edge_number}
 use Rattle.flat.specs.Accepted.{EdgeIs, Accepted}
 use Rattle.answer.specs.Answer.{result_of, refusal}
 use Rattle.answer.specs.claims.Faults.{Refusal}
 use Rattle.grid.specs.Grid.{crossings}
 use Rattle.grid.specs.Check.{check_numbers}
-use Rattle.grid.specs.declared.Checked.{Checked}
+use Rattle.answer.specs.declared.Refusal.{Refusal as Reason}
 use Rattle.flat.specs.Rows.{rows, flat_answer}
 use Rattle.flat.specs.Answer.{chains_answer}
 use Rattle.flat.specs.Numbers.{traced_numbers}
-use Rattle.flat.specs.declared.Traced.{Traced}
 
 module _ (G : FlatGrid) where
   -- the numbers of the triangles' edges in an accepted flat grid
@@ -41,12 +40,12 @@ FaultRefused = (G : FlatGrid) (n p : ℕ) → n ≢ 0 → flat_answer G ≡ refu
 abbrev pub AcceptsOrRefuses : Type 0
 AcceptsOrRefuses = (G : FlatGrid) → (flat_answer G ≡ result_of (crossings G.counts ∷ [])) ⊎ ((n : ℕ) × (p : ℕ) × Refusal (rows G) n p)
 
--- the numbers tell the answer: no two values of the enum are read as the same answer
+-- the numbers tell the answer: no two answers are read alike
 abbrev pub AnswerTold : Type 0
-AnswerTold = (G : FlatGrid) (r s : Checked) → check_numbers r ≡ flat_answer G → check_numbers s ≡ flat_answer G → r ≡ s
+AnswerTold = (G : FlatGrid) (r s : Result ℕ Reason) → check_numbers r ≡ flat_answer G → check_numbers s ≡ flat_answer G → r ≡ s
 
 abbrev pub ChainsTold : Type 0
-ChainsTold = (G : FlatGrid) (room : ℕ) (r s : Traced) → traced_numbers r ≡ chains_answer G room → traced_numbers s ≡ chains_answer G room → r ≡ s
+ChainsTold = (G : FlatGrid) (room : ℕ) (r s : Result ℕ Reason) → traced_numbers r ≡ chains_answer G room → traced_numbers s ≡ chains_answer G room → r ≡ s
 
 -- what the rows give the edges' numbers
 abbrev pub NumbersOfAccepted : Type 0

@@ -90,12 +90,14 @@ answer_from n G = answer_of (since n (rows G)) (result_of (crossings G.counts �
 pub record PastRow2 (G : FlatGrid) (sides : List ℕ) : Type 0 where
   pub few : triangles_in G.triangles ≤ most_flat_triangles
   pub pairs : bad_pairs G.edges G.counts ≡ false
+  pub small : (i : ℕ) → get_or G.edges i 0 < 65536
   pub blank : sides ≡ replicate most_sides 0
 
 -- the same after row 3
 pub record PastRow3 (G : FlatGrid) (sides : List ℕ) : Type 0 where
   pub rising : RisingTriangles G.triangles
   pub pairs : bad_pairs G.edges G.counts ≡ false
+  pub small : (i : ℕ) → get_or G.edges i 0 < 65536
   pub blank : sides ≡ replicate most_sides 0
 
 -- STEPS: the step from dart to dart, from the counts and the numbers of the triangles' edges at n places

@@ -2,10 +2,12 @@ use Prim.Native.Nat.{ℕ, ◌-◌}
 use mathlib.Core.Path.{◌∙◌, ◌≡◌, ap, sym}
 use mathlib.Core.List.{List}
 use native.Mathlib.Omega.{arith}
+use native.Mathlib.Nat.{not-suc-le-zero}
 use lib.ListN.{get_or, length}
+use borrow.Author.Count.{below_more}
 use borrow.Author.Tests.{eq-eqb, ne_eqb}
 use Rattle.counting.specs.Stored.{filled}
-use Rattle.counting.proofs.Search.{seeking_all, seeking_hit, seeking_more, seeking_none}
+use Rattle.counting.proofs.Search.{found_end, found_hit}
 use Rattle.counting.proofs.Stored.{filled_beyond, filled_more, filled_none, length_filled}
 use Rattle.flat.proofs.rows.lower_entries.Goals as goal
 
@@ -14,38 +16,49 @@ entry : (was : List ℕ) (j : ℕ) {sides : List ℕ} → sides ≡ filled (λ j
 entry was j e = ap (λ (l : List ℕ). get_or l j 0) e ∙ filled_beyond (λ j. get_or was j 0 - 1) j was 0 j (omega arith)
 
 pub loop-j-init : goal.loop-j-init
-loop-j-init c = (seeking_none _ _, filled_none _ _)
+loop-j-init c = record { none = λ i h. absurd (not-suc-le-zero h); lowered = filled_none _ _ }
 
 pub offset_bounds-sides-j : goal.offset_bounds-sides-j
 offset_bounds-sides-j c = omega (arith, c.requires)
 
 pub bounds-sides-j : goal.bounds-sides-j
-bounds-sides-j c = omega (arith, c.requires, simp length_filled at (ap length c.loop-j.invariant.1))
+bounds-sides-j c = omega (arith, c.requires, simp length_filled at (ap length c.loop-j.invariant.lowered))
 
 pub shape_of-sides-then-p-eq0 : goal.shape_of-sides-then-p-eq0
-shape_of-sides-then-p-eq0 c = simp length_filled at (ap length c.loop-j.invariant.1)
+shape_of-sides-then-p-eq0 c = simp length_filled at (ap length c.loop-j.invariant.lowered)
 
 pub returns-then-p-eq0 : goal.returns-then-p-eq0
-returns-then-p-eq0 c = let L = c.loop-j in record { result_value = seeking_hit _ L.invariant.0 (omega arith) (eq-eqb _ 0 (sym (entry c.args.sides.now L.j L.invariant.1) ∙ c.if-p-eq0.true)); sides_after = L.invariant.1 }
+returns-then-p-eq0 c =
+    let L = c.loop-j in
+    record {
+      result_value = found_hit _ _ L.j (omega arith) (eq-eqb _ 0 (sym (entry c.args.sides.now L.j L.invariant.lowered) ∙ c.if-p-eq0.true)) L.invariant.none;
+      sides_after = L.invariant.lowered;
+    }
 
 pub offset_bounds-sides-j-in-loop-j : goal.offset_bounds-sides-j-in-loop-j
 offset_bounds-sides-j-in-loop-j c = omega (arith, c.requires)
 
 pub bounds-sides-j-in-loop-j : goal.bounds-sides-j-in-loop-j
-bounds-sides-j-in-loop-j c = let c-loop = c.loop-j in
-    let c-pre = c.requires in
-    omega (arith, c-pre, simp length_filled at (ap length c-loop.invariant.1))
+bounds-sides-j-in-loop-j c = omega (arith, c.requires, simp length_filled at (ap length c.loop-j.invariant.lowered))
 
 pub loop-j-preserved : goal.loop-j-preserved
-loop-j-preserved c = let L = c.loop-j in
-    let e = entry c.args.sides.now L.j L.invariant.1 in
-    (seeking_more _ L.invariant.0 (omega arith) (ne_eqb _ 0 (λ q. c.if-p-eq0.false (e ∙ q))), filled_more _ _ _ _ _ L.invariant.1 (ap (λ (x : ℕ). x - 1) e))
+loop-j-preserved c =
+    let L = c.loop-j in
+    let e = entry c.args.sides.now L.j L.invariant.lowered in
+    record {
+      none = below_more _ _ L.invariant.none (ne_eqb _ 0 (λ q. c.if-p-eq0.false (e ∙ q)));
+      lowered = filled_more _ _ _ _ _ L.invariant.lowered (ap (λ (x : ℕ). x - 1) e);
+    }
 
 pub shape_of-sides : goal.shape_of-sides
-shape_of-sides c = simp length_filled at (ap length c.loop-j.invariant.1)
+shape_of-sides c = simp length_filled at (ap length c.loop-j.invariant.lowered)
 
 pub returns : goal.returns
-returns c = let L = c.loop-j in
+returns c =
+    let L = c.loop-j in
     let A = c.args in
-    let e : L.j ≡ A.n = omega (arith, L.invariant.0.within) in
-    record { result_value = seeking_all _ L.invariant.0 (omega arith); sides_after = L.invariant.1 ∙ ap (λ (k : ℕ). filled (λ j. get_or A.sides.now j 0 - 1) k A.sides.now) e }
+    let e : L.j ≡ A.n = omega arith in
+    record {
+      result_value = found_end _ _ (λ i h. L.invariant.none i (omega arith));
+      sides_after = L.invariant.lowered ∙ ap (λ (k : ℕ). filled (λ j. get_or A.sides.now j 0 - 1) k A.sides.now) e;
+    }

@@ -1,71 +1,41 @@
-use Prim.Native.Nat.{ℕ, ◌/◌, ◌<◌}
-use mathlib.Core.Path.{◌∙◌, ap, refl}
+use Prim.Native.Nat.{ℕ}
+use mathlib.Core.Path.{◌∙◌, ap, refl, sym}
 use native.Mathlib.Omega.{arith}
-use lib.ListN.{get_or, length, length-replicate}
+use lib.ListN.{length, length-replicate}
+use Rattle.std.specs.Prelude.{Some, None}
+use Rattle.counting.proofs.Search.{found_none}
 use Rattle.counting.proofs.Tables.{filled_table}
 use Rattle.counting.proofs.Stored.{length_filled}
 use Rattle.answer.specs.work.Faults.{since}
+use Rattle.answer.specs.Refusal.{refusal_numbers}
 use Rattle.grid.proofs.Answers.{where-accepted}
 use Rattle.flat.specs.work.Work.{most_sides}
 use Rattle.flat.specs.Rows.{rows}
-use Rattle.flat.proofs.Answers.{answer_last, answer_passes, answer_refuses}
+use Rattle.flat.proofs.Answers.{answer_clear, answer_found, answer_last, answer_passes, answer_refuses}
+use Rattle.flat.proofs.Keys.{block_found}
 use Rattle.flat.proofs.Listed.{placed_table, row_8_is, sided, unlisted_first}
 use Rattle.flat.proofs.rows.side_rows.Goals as goal
 
-pub side_keys-requires : goal.side_keys-requires
-side_keys-requires c = omega (arith, c.requires.rising.few)
-
-pub overflow_mul-f : goal.overflow_mul-f
-overflow_mul-f c = omega (arith, c.requires.rising.few)
-
-pub overflow_mul-f-2 : goal.overflow_mul-f-2
-overflow_mul-f-2 c = let c-pre = c.requires in
-    omega (arith, c-pre.rising.few)
-
-pub lower_entries-p7-requires : goal.lower_entries-p7-requires
-lower_entries-p7-requires c = let P = c.requires in
-    omega (arith, P.rising.few, ap length P.blank, length-replicate {A = ℕ} most_sides 0, simp length_filled at (ap length c.edge_places-p8.ensures.places_after))
-
-pub shape_of-sides-then-p7-f : goal.shape_of-sides-then-p7-f
-shape_of-sides-then-p7-f c = let c-lower-entries = c.lower_entries-p7 in
-    let c-edge-places = c.edge_places-p8 in
-    simp length_filled at (ap length c-lower-entries.ensures.sides_after) ∙ simp length_filled at (ap length c-edge-places.ensures.places_after)
-
-pub returns-then-p7-f : goal.returns-then-p7-f
+pub returns-in-Some-clause-result_value : goal.returns-in-Some-clause-result_value
 unfolding since rows
-returns-then-p7-f c = let P = c.requires in
+returns-in-Some-clause-result_value c = let P = c.requires in
     let K = c.side_keys.ensures in
     let w = filled_table _ _ _ _ K (omega (arith, P.rising.few)) in
     let long = simp length_filled at (ap length K) ∙ length-replicate {A = ℕ} most_sides 0 in
-    let small : (i : ℕ) → get_or c.args.edges.now i 0 < 65536 = λ i. omega (arith, c.type_inv.edges i) in
-    let E = c.edge_places-p8.ensures in
-    let L = c.lower_entries-p7.ensures in
-    let v = placed_table _ P small _ w long E.places_after in
-    let r = ap (λ (x : ℕ). x / 3) L.result_value ∙ unlisted_first _ P.rising small _ w _ v in
-    record { result_value = answer_refuses _ 7 8 refl _ r c.if-p7-f.true; where_accepted = tt }
+    let v = placed_table _ P P.small _ w long c.edge_places-p8.ensures.places_after in
+    let r = unlisted_first _ P.rising P.small _ w _ v in
+    ap refusal_numbers c.at.ensures ∙ answer_found _ 7 8 refl _ (block_found _ _ _ (Some _) c.in-Some.ensures.result_value r)
 
-pub shape_of-sides-then-p8-counts : goal.shape_of-sides-then-p8-counts
-shape_of-sides-then-p8-counts c = let c-lower-entries = c.lower_entries-p7 in
-    let c-edge-places = c.edge_places-p8 in
-    simp length_filled at (ap length c-lower-entries.ensures.sides_after) ∙ simp length_filled at (ap length c-edge-places.ensures.places_after)
-
-pub returns-then-p8-counts : goal.returns-then-p8-counts
+pub returns-then-p8-grid-clause-result_value : goal.returns-then-p8-grid-clause-result_value
 unfolding since rows
-returns-then-p8-counts c = let P = c.requires in
+returns-then-p8-grid-clause-result_value c = let P = c.requires in
     let K = c.side_keys.ensures in
     let w = filled_table _ _ _ _ K (omega (arith, P.rising.few)) in
     let long = simp length_filled at (ap length K) ∙ length-replicate {A = ℕ} most_sides 0 in
-    let small : (i : ℕ) → get_or c.args.edges.now i 0 < 65536 = λ i. omega (arith, c.type_inv.edges i) in
-    let E = c.edge_places-p8.ensures in
-    let L = c.lower_entries-p7.ensures in
-    let v = placed_table _ P small _ w long E.places_after in
-    let r = ap (λ (x : ℕ). x / 3) L.result_value ∙ unlisted_first _ P.rising small _ w _ v in
-    record { result_value = answer_refuses _ 8 10 refl _ (row_8_is _ P small _ w long E.value) c.if-p8-counts.true ∙ answer_passes _ 7 8 refl _ r c.if-p7-f.false; where_accepted = tt }
-
-pub shape_of-sides : goal.shape_of-sides
-shape_of-sides c = let c-lower-entries = c.lower_entries-p7 in
-    let c-edge-places = c.edge_places-p8 in
-    simp length_filled at (ap length c-lower-entries.ensures.sides_after) ∙ simp length_filled at (ap length c-edge-places.ensures.places_after)
+    let v = placed_table _ P P.small _ w long c.edge_places-p8.ensures.places_after in
+    let r = unlisted_first _ P.rising P.small _ w _ v in
+    ap refusal_numbers c.at-then-p8-grid.ensures ∙ answer_refuses _ 8 10 refl _ (row_8_is _ P P.small _ w long c.edge_places-p8.ensures.value) c.if-p8-grid.true
+    ∙ answer_clear _ 7 8 refl (block_found _ _ _ None c.in_default.ensures.result_value r)
 
 pub returns : goal.returns
 unfolding since rows
@@ -73,14 +43,11 @@ returns c = let P = c.requires in
     let K = c.side_keys.ensures in
     let w = filled_table _ _ _ _ K (omega (arith, P.rising.few)) in
     let long = simp length_filled at (ap length K) ∙ length-replicate {A = ℕ} most_sides 0 in
-    let small : (i : ℕ) → get_or c.args.edges.now i 0 < 65536 = λ i. omega (arith, c.type_inv.edges i) in
-    let E = c.edge_places-p8.ensures in
-    let L = c.lower_entries-p7.ensures in
-    let v = placed_table _ P small _ w long E.places_after in
-    let r = ap (λ (x : ℕ). x / 3) L.result_value ∙ unlisted_first _ P.rising small _ w _ v in
+    let v = placed_table _ P P.small _ w long c.edge_places-p8.ensures.places_after in
+    let r = unlisted_first _ P.rising P.small _ w _ v in
+    let d = c.in_default.ensures in
     record {
-      result_value = c.last_row.ensures ∙ answer_last _
-          ∙ answer_passes _ 8 10 refl _ (row_8_is _ P small _ w long E.value) c.if-p8-counts.false
-          ∙ answer_passes _ 7 8 refl _ r c.if-p7-f.false;
-      where_accepted = where-accepted c.last_row.result (sided _ P.rising small _ w _ v _ L.result_value c.if-p7-f.false L.sides_after);
+      result_value = c.last_row.ensures ∙ answer_last _ ∙ answer_passes _ 8 10 refl _ (row_8_is _ P P.small _ w long c.edge_places-p8.ensures.value) c.if-p8-grid.false
+          ∙ answer_clear _ 7 8 refl (block_found _ _ _ None d.result_value r);
+      where_accepted = where-accepted c.last_row.result (sided _ P.rising P.small _ w _ v _ (sym (found_none _ _ d.result_value)) (omega arith) d.sides_after);
     }

@@ -1,16 +1,17 @@
 use mathlib.Core.Path.{◌∙◌, sym}
 use native.Mathlib.Omega.{arith}
-use Rattle.counting.proofs.Search.{seeking_all, seeking_hit, seeking_more, seeking_none}
+use borrow.Author.Count.{below_more}
+use Rattle.counting.proofs.Search.{found_end, found_hit}
 use Rattle.flat.proofs.triangles.row_3.Goals as goal
 
-pub loop-f-init : goal.loop-f-init
-loop-f-init c = seeking_none _ _
-
 pub returns-then-bad_triangle : goal.returns-then-bad_triangle
-returns-then-bad_triangle c = seeking_hit _ c.loop-f.invariant (omega arith) (sym c.bad_triangle.ensures ∙ c.if-bad_triangle.true)
+returns-then-bad_triangle c = record {
+  value = found_hit _ _ _ (omega arith) (sym c.bad_triangle.ensures ∙ c.if-bad_triangle.true) c.loop-f.invariant;
+  small = λ i. omega (arith, c.type_inv.triangles i);
+}
 
 pub loop-f-preserved : goal.loop-f-preserved
-loop-f-preserved c = seeking_more _ c.loop-f.invariant (omega arith) (sym c.bad_triangle.ensures ∙ c.if-bad_triangle.false)
+loop-f-preserved c = below_more _ _ c.loop-f.invariant (sym c.bad_triangle.ensures ∙ c.if-bad_triangle.false)
 
 pub returns : goal.returns
-returns c = seeking_all _ c.loop-f.invariant (omega arith)
+returns c = record { value = found_end _ _ (λ i h. c.loop-f.invariant i (omega arith)); small = λ i. omega (arith, c.type_inv.triangles i) }

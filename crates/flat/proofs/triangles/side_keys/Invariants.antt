@@ -1,11 +1,8 @@
-use Prim.Native.Nat.{◌*◌, ◌-◌, ◌≤◌}
+use Prim.Native.Nat.{◌*◌}
 use mathlib.Core.Path.{◌≡◌}
 use Rattle.counting.specs.Stored.{filled}
 use Rattle.flat.specs.work.Work.{side_key}
 use Rattle.flat.proofs.triangles.side_keys.Given as goal
 
 abbrev pub invariant-loop-f : goal.invariant-loop-f
-invariant-loop-f l = (l.f ≤ l.n) × (l.keys ≡ filled (side_key l.triangles) (3 * l.f) l.initial.keys)
-
-abbrev pub decreases-loop-f : goal.decreases-loop-f
-decreases-loop-f l = l.n - l.f
+invariant-loop-f l = l.keys ≡ filled (side_key l.triangles) (3 * l.f) l.initial.keys

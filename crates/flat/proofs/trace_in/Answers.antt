@@ -1,0 +1,55 @@
+use Prim.Native.Nat.{ℕ, ◌*◌, ◌≤◌}
+use mathlib.Core.Path.{ap}
+use native.Mathlib.Omega.{arith}
+use lib.ListN.{length, length-replicate, replicate}
+use lib.Seq.{length-sets}
+use Rattle.flat.specs.Lent.{lent}
+use Rattle.flat.proofs.Calls.{is_linked, made_few, made_fits, made_short, words_few}
+use Rattle.flat.proofs.Stepped.{sides_are}
+use Rattle.flat.proofs.trace_in.Goals as goal
+
+pub put_steps-requires-clause-sides : goal.put_steps-requires-clause-sides
+put_steps-requires-clause-sides g c = sides_are (lent c.args.grid) c.requires.accepted _ c.requires.sides_known
+
+pub put_words-m-requires : goal.put_words-m-requires
+put_words-m-requires g c =
+    let P = c.requires in
+    let l = length-replicate {A = ℕ} g.row.ROOM 0 in
+    let r : 2 * c.args.n ≤ length (replicate {A = ℕ} g.row.ROOM 0) = omega (arith, l, P.n_in_bounds) in
+    record {
+      step_table = is_linked (lent c.args.grid) P.accepted _ P.sides_known _ _ _ P.n_value r c.put_steps.ensures;
+      next_in_bounds = omega (arith, words_few (lent c.args.grid) P.accepted _ P.sides_known _ _ _ P.n_value r c.put_steps.ensures, r);
+    }
+
+pub returns-then-area-m : goal.returns-then-area-m
+returns-then-area-m g c =
+    let P = c.requires in
+    let W = c.put_words-m.ensures in
+    let l = length-replicate {A = ℕ} g.row.ROOM 0 in
+    let r : 2 * c.args.n ≤ length (replicate {A = ℕ} g.row.ROOM 0) = omega (arith, l, P.n_in_bounds) in
+    rw c.at.ensures (made_short (lent c.args.grid) P.accepted _ P.sides_known _ _ _ P.n_value r c.put_steps.ensures _ _ _ r W.area_after W.value _ c.if-area-m.true)
+
+pub copy_words-requires : goal.copy_words-requires
+copy_words-requires g c =
+    let P = c.requires in
+    let W = c.put_words-m.ensures in
+    let l = length-replicate {A = ℕ} g.row.ROOM 0 in
+    let r : 2 * c.args.n ≤ length (replicate {A = ℕ} g.row.ROOM 0) = omega (arith, l, P.n_in_bounds) in
+    let w = made_few (lent c.args.grid) P.accepted _ P.sides_known _ _ _ P.n_value r c.put_steps.ensures _ _ _ r W.area_after W.value in
+    record { m_in_bounds = omega (arith, w, r, simp length-sets at (ap length W.area_after)); m_in_bounds_2 = omega (arith, c.if-area-m.false) }
+
+pub overflow_cast-result : goal.overflow_cast-result
+overflow_cast-result g c =
+    let P = c.requires in
+    let W = c.put_words-m.ensures in
+    let l = length-replicate {A = ℕ} g.row.ROOM 0 in
+    let r : 2 * c.args.n ≤ length (replicate {A = ℕ} g.row.ROOM 0) = omega (arith, l, P.n_in_bounds) in
+    omega (arith, made_few (lent c.args.grid) P.accepted _ P.sides_known _ _ _ P.n_value r c.put_steps.ensures _ _ _ r W.area_after W.value, P.n_value, P.accepted.few_crossings)
+
+pub returns : goal.returns
+returns g c =
+    let P = c.requires in
+    let W = c.put_words-m.ensures in
+    let l = length-replicate {A = ℕ} g.row.ROOM 0 in
+    let r : 2 * c.args.n ≤ length (replicate {A = ℕ} g.row.ROOM 0) = omega (arith, l, P.n_in_bounds) in
+    made_fits (lent c.args.grid) P.accepted _ P.sides_known _ _ _ P.n_value r c.put_steps.ensures _ _ _ r W.area_after W.value _ (omega (arith, c.if-area-m.false)) c.copy_words.ensures
