@@ -1,37 +1,55 @@
 -- Laws of a list's keys in trees: the place before each, and pairs that have a key. Assumes nothing.
-use Prim.Native.Nat.{ℕ, ◌+◌, ◌-◌, ◌%◌, ◌≤◌, ◌<◌}
+use Rattle.std.specs.Prelude.{Some, None}
+use Prim.Native.Nat.{ℕ, suc, ◌+◌, ◌-◌, ◌%◌, ◌≤◌, ◌<◌}
 use mathlib.Core.Path.{◌≡◌, refl, sym, ap, ◌∙◌}
-use mathlib.Core.Bool.{Bool, true, false}
+use mathlib.Core.Bool.{Bool, true, false, not}
 use mathlib.Core.List.{List}
 use native.Mathlib.Numerals.{add-one}
 use native.Mathlib.Decide.{dec_lt, ℕ_discrete}
 use native.Mathlib.Omega.{arith}
 use lib.Dec.{ltb}
-use lib.ListN.{length, get_or, set, length-set}
-use lib.Seq.{ext_get_or, get_or-set_same, get_or-set_other}
+use lib.ListN.{length, get_or, set, take, length-set}
+use lib.Seq.{ext_get_or, get_or-take, get_or-set_same, get_or-set_other}
 use borrow.Author.Tests.{eq-eqb, ne_eqb, lt-ltb, le-ltb}
 use Rattle.counting.specs.Pick.{pick}
-use Rattle.counting.specs.Search.{last}
+use Rattle.counting.specs.Search.{last, found}
 use Rattle.counting.specs.Stored.{filled}
-use Rattle.counting.proofs.Search.{last_none, last_hit, last_miss, seek_end, seek_hit, seek_miss, seek_start, some_last}
+use Rattle.counting.proofs.Search.{last_none, last_hit, last_miss, seek_end, seek_hit, seek_miss, seek_start, some_last, last_ext, some_ext}
 use Rattle.counting.proofs.Stored.{filled_at, filled_beyond, length_filled}
 use Rattle.trees.specs.work.Trees.{has_key, top_for, Tops}
 use Rattle.trees.specs.work.Keys.{most_places, key_in, earlier_in, pair_in, pair_has, pair_lacks, below_or, paired_at}
-use Rattle.trees.specs.work.Planted.{top_at, KeyTops, Stepping, met, pair_from, PairsMarked, Topped, source_at, spread_at}
+use Rattle.trees.specs.work.Planted.{top_at, KeyTops, Stepping, met, pair_from, PairsMarked, lowest_from, Topped, source_at, spread_at}
 use Rattle.trees.proofs.Trees.{top_le, top_key, top_self, tops_none, tops_more}
 
 -- the loop of `grow`
-module _ (keys : List ℕ) (n : ℕ) (was : List ℕ) where
-  pub key_tops_none : n ≤ length was → KeyTops keys n n was was
-  key_tops_none r = record { tops_are = tops_none (key_in keys) n was r; same = refl; rest = λ i h. refl }
+module _ (key : ℕ → ℕ) (n : ℕ) (was : List ℕ) where
+  pub key_tops_none : n ≤ length was → KeyTops key n n was was
+  key_tops_none r = record { tops_are = tops_none key n was r; same = refl; rest = λ i h. refl }
 
-  pub key_tops_more : (tops : List ℕ) (i p : ℕ) → i < n → p ≡ top_at keys n i → KeyTops keys n (i + 1) was tops → KeyTops keys n i was (set tops i p)
+  pub key_tops_more : (tops : List ℕ) (i p : ℕ) → i < n → p ≡ top_for key n (key i) → KeyTops key n (i + 1) was tops → KeyTops key n i was (set tops i p)
   key_tops_more tops i p hi e w =
       record {
-        tops_are = tops_more (key_in keys) n tops i p hi e w.tops_are;
+        tops_are = tops_more key n tops i p hi e w.tops_are;
         same = length-set tops i p ∙ w.same;
         rest = λ k h. get_or-set_other tops i k p 0 (λ q. omega arith) ∙ w.rest k h;
       }
+
+-- the first n keys, as a list of their own
+module _ (keys : List ℕ) (n : ℕ) where
+  key_take : (i : ℕ) → i < n → key_in (take n keys) i ≡ key_in keys i
+  key_take i h = get_or-take n keys i 0 h
+
+  pub earlier_take : (j : ℕ) → j < n → earlier_in (take n keys) j ≡ earlier_in keys j
+  unfolding earlier_in has_key
+  earlier_take j h = rw (key_take j h) (last_ext _ _ j (λ i l. rw (key_take i (omega arith))))
+
+  pub lacks_take : (pairs : List ℕ) (e : ℕ) → pair_lacks pairs (take n keys) n e ≡ pair_lacks pairs keys n e
+  unfolding pair_lacks has_key
+  lacks_take pairs e = ap not (some_ext _ _ n (λ i l. rw (key_take i l)))
+
+  pub paired_take : (pairs : List ℕ) (m : ℕ) (was : List ℕ) (j : ℕ) → j < n → paired_at pairs m (take n keys) was j ≡ paired_at pairs m keys was j
+  unfolding paired_at
+  paired_take pairs m was j h = rw (key_take j h)
 
 -- equal tops are those of equal keys
 module _ (keys : List ℕ) (n : ℕ) where
@@ -108,6 +126,21 @@ filled_over f n l m e room rest =
       | no k ↦ filled_beyond f n m 0 i (omega arith) ∙ rest i (omega arith) ∙ sym (filled_beyond f n l 0 i (omega arith))
     ])
 
+-- the lowest that passes, from the end down
+module _ (t : ℕ → Bool) (m : ℕ) where
+  pub lowest_none : None ≡ lowest_from t m m
+  lowest_none = sym (rw (seek_end t m m (omega arith), le-ltb m m (omega arith)))
+
+  pub lowest_hit : (e : ℕ) → e < m → t e ≡ true → Some e ≡ lowest_from t m e
+  lowest_hit e h p = sym (rw (seek_hit t m e h p, lt-ltb e m h))
+
+  pub lowest_miss : (e : ℕ) → e < m → t e ≡ false → lowest_from t m (e + 1) ≡ lowest_from t m e
+  lowest_miss e h p = sym (rw (seek_miss t m e h p))
+
+  pub lowest_all : lowest_from t m 0 ≡ found t m
+  unfolding found
+  lowest_all = rw (seek_start t m)
+
 -- the loop of `mark` has come to pair e
 module _ (pairs : List ℕ) (m : ℕ) (keys : List ℕ) (n : ℕ) (was : List ℕ) where
   pub marked_none : (tops : List ℕ) → Tops (key_in keys) n 0 tops → PairsMarked pairs m keys n m was tops was
@@ -151,46 +184,46 @@ module _ (pairs : List ℕ) (m : ℕ) (keys : List ℕ) (n : ℕ) (was : List �
         ne : (j : ℕ) → j < n → key_in keys j ≡ pair_in pairs e → ⊥
         ne j l q = omega (arith, z, top_self (key_in keys) n j l, ap (top_for (key_in keys) n) q)
 
-    -- p - 1 is the last with it
-    module _ (room : n ≤ length was) (p : ℕ) (is : p ≡ top_for (key_in keys) n (pair_in pairs e)) (pos : 0 < p) where
-      pub mark_in : p ≤ n
+    -- p is the last with it
+    module _ (room : n ≤ length was) (p : ℕ) (is : suc p ≡ top_for (key_in keys) n (pair_in pairs e)) where
+      pub mark_in : p < n
       mark_in = omega (arith, is, top_le (key_in keys) n (pair_in pairs e))
 
-      key_is : key_in keys (p - 1) ≡ pair_in pairs e
-      key_is = rw is (top_key (key_in keys) n (pair_in pairs e) (omega (arith, is, pos)))
+      key_is : key_in keys p ≡ pair_in pairs e
+      key_is = let q : p ≡ top_for (key_in keys) n (pair_in pairs e) - 1 = omega (arith, is) in ap (key_in keys) q ∙ top_key (key_in keys) n (pair_in pairs e) (omega (arith, is))
 
-      -- a place with the key has p for its top
-      top_of : (j : ℕ) → key_in keys j ≡ pair_in pairs e → top_at keys n j ≡ p
+      -- a place with the key has its link for its top
+      top_of : (j : ℕ) → key_in keys j ≡ pair_in pairs e → top_at keys n j ≡ suc p
       top_of j q = ap (top_for (key_in keys) n) q ∙ sym is
 
-      pub marked_more : PairsMarked pairs m keys n e was (set tops (p - 1) (p + met)) (set places (p - 1) (e + 1))
+      pub marked_more : PairsMarked pairs m keys n e was (set tops p (p + 1 + met)) (set places p (e + 1))
       marked_more =
           record {
-            room = omega (arith, w.room, length-set tops (p - 1) (p + met));
-            same = length-set places (p - 1) (e + 1) ∙ w.same;
-            own = λ j l q. elim (ℕ_discrete (p - 1) j) [
-              | yes x ↦ rw (← x, get_or-set_same tops (p - 1) (p + met) 0 (omega (arith, w.room, mark_in)), from_hit (p - 1) key_is, lt-ltb e m h) (omega arith)
-              | no x ↦ get_or-set_other tops (p - 1) j (p + met) 0 (λ y. x (sym y)) ∙ w.own j l q ∙ rw (from_miss j (ne j q x))
+            room = omega (arith, w.room, length-set tops p (p + 1 + met));
+            same = length-set places p (e + 1) ∙ w.same;
+            own = λ j l q. elim (ℕ_discrete p j) [
+              | yes x ↦ rw (← x, get_or-set_same tops p (p + 1 + met) 0 (omega (arith, w.room, mark_in)), from_hit p key_is, lt-ltb e m h) (omega arith)
+              | no x ↦ get_or-set_other tops p j (p + 1 + met) 0 (λ y. x (sym y)) ∙ w.own j l q ∙ rw (from_miss j (ne j q x))
             ];
-            own_place = λ j l q. elim (ℕ_discrete (p - 1) j) [
-              | yes x ↦ rw (← x, get_or-set_same places (p - 1) (e + 1) 0 (omega (arith, w.same, room, mark_in)), from_hit (p - 1) key_is, lt-ltb e m h) (add-one e)
-              | no x ↦ get_or-set_other places (p - 1) j (e + 1) 0 (λ y. x (sym y)) ∙ w.own_place j l q ∙ rw (from_miss j (ne j q x))
+            own_place = λ j l q. elim (ℕ_discrete p j) [
+              | yes x ↦ rw (← x, get_or-set_same places p (e + 1) 0 (omega (arith, w.same, room, mark_in)), from_hit p key_is, lt-ltb e m h) (add-one e)
+              | no x ↦ get_or-set_other places p j (e + 1) 0 (λ y. x (sym y)) ∙ w.own_place j l q ∙ rw (from_miss j (ne j q x))
             ];
-            other = λ j l q. get_or-set_other tops (p - 1) j (p + met) 0 (λ y. apart j q (sym y)) ∙ w.other j l q;
-            other_place = λ j l q. get_or-set_other places (p - 1) j (e + 1) 0 (λ y. apart j q (sym y)) ∙ w.other_place j l q;
-            rest = λ j l. get_or-set_other places (p - 1) j (e + 1) 0 (λ y. omega (arith, mark_in)) ∙ w.rest j l;
+            other = λ j l q. get_or-set_other tops p j (p + 1 + met) 0 (λ y. apart j q (sym y)) ∙ w.other j l q;
+            other_place = λ j l q. get_or-set_other places p j (e + 1) 0 (λ y. apart j q (sym y)) ∙ w.other_place j l q;
+            rest = λ j l. get_or-set_other places p j (e + 1) 0 (λ y. omega (arith, mark_in)) ∙ w.rest j l;
           }
         where
-          ne : (j : ℕ) → j + 1 ≡ top_at keys n j → (p - 1 ≡ j → ⊥) → key_in keys j ≡ pair_in pairs e → ⊥
+          ne : (j : ℕ) → j + 1 ≡ top_at keys n j → (p ≡ j → ⊥) → key_in keys j ≡ pair_in pairs e → ⊥
           ne j q x y = x (omega (arith, q, top_of j y))
 
-          apart : (j : ℕ) → j + 1 < top_at keys n j → p - 1 ≡ j → ⊥
+          apart : (j : ℕ) → j + 1 < top_at keys n j → p ≡ j → ⊥
           apart j q x = omega (arith, q, top_of j (rw (← x) key_is))
 
   -- all pairs have
   module _ (tops places : List ℕ) (few : n ≤ most_places) (room : n ≤ length was) (w : PairsMarked pairs m keys n 0 was tops places) where
-    abbrev found : ℕ → ℕ
-    found j = pair_from pairs m keys 0 j
+    abbrev pair_of : ℕ → ℕ
+    pair_of j = pair_from pairs m keys 0 j
 
     -- the top of place j, and what stands there
     module _ (j : ℕ) (h : j < n) where
@@ -205,7 +238,7 @@ module _ (pairs : List ℕ) (m : ℕ) (keys : List ℕ) (n : ℕ) (was : List �
 
       entry : get_or tops j 0 % met ≡ top
       entry = elim (ℕ_discrete (j + 1) top) [
-        | yes q ↦ ap (λ x. x % met) (w.own j h q) ∙ go (ltb (found j) m) q
+        | yes q ↦ ap (λ x. x % met) (w.own j h q) ∙ go (ltb (pair_of j) m) q
         | no q ↦ ap (λ x. x % met) (w.other j h (omega (arith, top_up))) ∙ small top top_in
       ]
         where
@@ -222,16 +255,16 @@ module _ (pairs : List ℕ) (m : ℕ) (keys : List ℕ) (n : ℕ) (was : List �
       own_top : top - 1 + 1 ≡ top_at keys n (top - 1)
       own_top = rw key_top (omega (arith, top_up))
 
-      found_top : found (top - 1) ≡ found j
-      found_top = rw key_top
+      pair_top : pair_of (top - 1) ≡ pair_of j
+      pair_top = rw key_top
 
-      marks_top : get_or tops (top - 1) 0 ≡ pick (ltb (found j) m) (top - 1 + 1 + met) (top - 1 + 1)
-      marks_top = w.own (top - 1) (omega (arith, top_up, top_in)) own_top ∙ rw found_top
+      marks_top : get_or tops (top - 1) 0 ≡ pick (ltb (pair_of j) m) (top - 1 + 1 + met) (top - 1 + 1)
+      marks_top = w.own (top - 1) (omega (arith, top_up, top_in)) own_top ∙ rw pair_top
 
-      place_top : get_or places (top - 1) 0 ≡ below_or m (found j) (get_or was (top - 1) 0)
-      place_top = w.own_place (top - 1) (omega (arith, top_up, top_in)) own_top ∙ rw found_top
+      place_top : get_or places (top - 1) 0 ≡ below_or m (pair_of j) (get_or was (top - 1) 0)
+      place_top = w.own_place (top - 1) (omega (arith, top_up, top_in)) own_top ∙ rw pair_top
 
-      own_is : ltb (found j) m ≡ false → get_or places j 0 ≡ get_or was j 0
+      own_is : ltb (pair_of j) m ≡ false → get_or places j 0 ≡ get_or was j 0
       own_is e = elim (ℕ_discrete (j + 1) top) [
         | yes q ↦ w.own_place j h q ∙ rw e
         | no q ↦ w.other_place j h (omega (arith, top_up))
@@ -239,9 +272,9 @@ module _ (pairs : List ℕ) (m : ℕ) (keys : List ℕ) (n : ℕ) (was : List �
 
       pub spread_is : spread_at tops places j ≡ paired_at pairs m keys was j
       unfolding spread_at source_at paired_at
-      spread_is = rw (entry, seek_start (pair_has pairs (key_in keys j)) m) (go (ltb (found j) m) refl)
+      spread_is = rw (entry, seek_start (pair_has pairs (key_in keys j)) m) (go (ltb (pair_of j) m) refl)
         where
-          go : (c : Bool) → ltb (found j) m ≡ c → get_or places (pick (ltb (get_or tops (top - 1) 0) met) j (top - 1)) 0 ≡ below_or m (found j) (get_or was j 0)
+          go : (c : Bool) → ltb (pair_of j) m ≡ c → get_or places (pick (ltb (get_or tops (top - 1) 0) met) j (top - 1)) 0 ≡ below_or m (pair_of j) (get_or was j 0)
           go true e = rw (marks_top, e) (rw (le-ltb (top - 1 + 1 + met) met (omega arith), place_top) (rw e))
           go false e = rw (marks_top, e) (rw (lt-ltb (top - 1 + 1) met (omega (arith, top_in, top_up))) (own_is e))
 

@@ -1,26 +1,30 @@
-// Places in trees by their keys: definitions and laws for any keys and any number of branches (`bundle` plants looks by them, whose keys lie in bytes),
-// and the code for keys in a list. The two public functions answer every input, and say nothing of trees.
+// Places in trees by their keys, for any keys and any number of branches (`bundle` plants looks, whose keys lie in bytes, and the code here keys in a
+// list). The two public functions over lists answer every input, and say nothing of trees.
 #![tactic(auto)]
 
-ghost use Rattle.std.specs.Prelude.{◌≡◌, ◌/◌, ◌≤◌, min, length};
-ghost use Rattle.counting.specs.Search.{first};
+ghost use Rattle.std.specs.Prelude.{◌≡◌, ◌+◌, ◌*◌, ◌/◌, ◌≤◌, min, length};
+ghost use Rattle.counting.specs.Search.{found};
 ghost use Rattle.counting.specs.Stored.{filled};
-ghost use Rattle.trees.specs.work.Keys.{most_places, few_places, place_room, earlier_in, pair_lacks, paired_at};
-
-use counting::least;
-use planting::BRANCHES;
+ghost use Rattle.trees.specs.work.Trees.{trees};
+ghost use Rattle.trees.specs.work.Planted.{key_branches, most_links};
+ghost use Rattle.trees.specs.work.Keys.{most_places, place_room, earlier_in, pair_lacks, paired_at};
 
 mod earlier;
 mod pairs;
 mod planting;
 
+pub use planting::{Keys, grow, latest};
+
 // The trees: a prime that shares no factor with 65,536, by which keys are packed, and leaves 2,184 of it: neighbouring keys fall apart.
 pub const TREES: usize = 7919;
 
 // The most places that are planted; pairs have smaller tables for up to half as many.
-const MOST_PLACES: usize = 12288;
+pub const MOST_PLACES: usize = 12288;
 
 const FEW_PLACES: usize = MOST_PLACES / 2;
+
+// The branches of a place in a list.
+const BRANCHES: usize = 2;
 
 // The links: to the trees, then the branches of each place.
 const MOST_LINKS: usize = TREES + BRANCHES * MOST_PLACES;
@@ -32,46 +36,39 @@ const FEW_LINKS: usize = TREES + BRANCHES * FEW_PLACES;
 pub fn earlier_of(keys: &[usize], prev: &mut [u16])
     ensures { prev.new ≡ filled (earlier_in keys.now) (place_room (length keys.now) (length prev.old)) prev.old }
 {
-    let n = least(least(keys.len(), prev.len()), MOST_PLACES);
+    let n = keys.len().min(prev.len()).min(MOST_PLACES);
     let mut links = [0u16; MOST_LINKS];
-    earlier::put_earlier(keys, n, &mut links, prev);
+    earlier::put_earlier(&keys[..n], &mut links, prev);
 }
 
-// Keeps 51 KB on the stack.
-fn pairs_of_few(pairs: &[u16], keys: &[usize], n: usize, places: &mut [usize]) -> usize
-    requires n_le_few_places { n ≤ few_places }
-    requires n_in_bounds { n ≤ length keys.now }
-    requires n_in_bounds_2 { n ≤ length places.old }
-    ensures value { result ≡ first (pair_lacks pairs.now keys.now n) (length pairs.now / 2) }
-    ensures places_after { places.new ≡ filled (paired_at pairs.now (length pairs.now / 2) keys.now places.old) n places.old }
+// The lowest pair that has none of the keys. Each key that a pair has gets one more than the lowest such pair; the other entries stay.
+// Keeps its tables on the stack, 2 bytes for each link and each place.
+fn pairs_within<const LINKS: usize, const PLACES: usize>(
+    pairs: &[u16],
+    keys: &[usize],
+    places: &mut [usize],
+) -> Option<usize>
+    requires links { (trees + key_branches * length keys.now ≤ LINKS) × (LINKS ≤ most_links) }
+    requires tops { (length keys.now ≤ PLACES) × (PLACES ≤ most_places) }
+    requires places { length keys.now ≤ length places.old }
+    ensures value { result ≡ found (pair_lacks pairs.now keys.now (length keys.now)) (length pairs.now / 2) }
+    ensures places_after { places.new ≡ filled (paired_at pairs.now (length pairs.now / 2) keys.now places.old) (length keys.now) places.old }
 {
-    let mut links = [0u16; FEW_LINKS];
-    let mut tops = [0u16; FEW_PLACES];
-    pairs::put_pairs(pairs, keys, n, &mut links, &mut tops, places)
+    let mut links = [0u16; LINKS];
+    let mut tops = [0u16; PLACES];
+    pairs::put_pairs(pairs, keys, &mut links, &mut tops, places)
 }
 
-// Keeps 87 KB on the stack.
-fn pairs_of_many(pairs: &[u16], keys: &[usize], n: usize, places: &mut [usize]) -> usize
-    requires n_le_most_places { n ≤ most_places }
-    requires n_in_bounds { n ≤ length keys.now }
-    requires n_in_bounds_2 { n ≤ length places.old }
-    ensures value { result ≡ first (pair_lacks pairs.now keys.now n) (length pairs.now / 2) }
-    ensures places_after { places.new ≡ filled (paired_at pairs.now (length pairs.now / 2) keys.now places.old) n places.old }
-{
-    let mut links = [0u16; MOST_LINKS];
-    let mut tops = [0u16; MOST_PLACES];
-    pairs::put_pairs(pairs, keys, n, &mut links, &mut tops, places)
-}
-
-// The lowest pair that has none of the first n keys, up to the end of either list and no more than 12,288; the number of pairs where there is none. Each
-// of these keys that a pair has gets one more than the lowest such pair; the other entries stay.
-pub fn pairs_of(pairs: &[u16], keys: &[usize], n: usize, places: &mut [usize]) -> usize
-    ensures value { result ≡ first (pair_lacks pairs.now keys.now (place_room (min n (length keys.now)) (length places.old))) (length pairs.now / 2) }
+// The lowest pair that has none of the first n keys, up to the end of either list and no more than 12,288. Each of these keys that a pair has gets one
+// more than the lowest such pair; the other entries stay. Keeps 51 KB on the stack for up to 6,144 keys, and 87 KB for more.
+pub fn pairs_of(pairs: &[u16], keys: &[usize], n: usize, places: &mut [usize]) -> Option<usize>
+    ensures value { result ≡ found (pair_lacks pairs.now keys.now (place_room (min n (length keys.now)) (length places.old))) (length pairs.now / 2) }
     ensures places_after { places.new ≡ filled (paired_at pairs.now (length pairs.now / 2) keys.now places.old) (place_room (min n (length keys.now)) (length places.old)) places.old }
 {
-    let k = least(least(least(n, keys.len()), places.len()), MOST_PLACES);
+    let k = n.min(keys.len()).min(places.len()).min(MOST_PLACES);
     if k <= FEW_PLACES {
-        return pairs_of_few(pairs, keys, k, places);
+        pairs_within::<FEW_LINKS, FEW_PLACES>(pairs, &keys[..k], places)
+    } else {
+        pairs_within::<MOST_LINKS, MOST_PLACES>(pairs, &keys[..k], places)
     }
-    pairs_of_many(pairs, keys, k, places)
 }

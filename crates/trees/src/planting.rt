@@ -1,46 +1,72 @@
-// The keys of a list in trees: the remainder of a key chooses the tree, and at each place on the way down one more bit of the key chooses one of two
-// branches. Keys of 32 bits have ways of 33 places at most, whatever they are, and keys of 64 bits of 65.
-ghost use Rattle.std.specs.Prelude.{◌≡◌, ◌≤◌, length};
-ghost use Rattle.counting.specs.Stored.{filled};
-ghost use Rattle.trees.specs.work.Trees.{Tree, top_for, Sought};
+// Keys in trees: the remainder of a key chooses the tree, and at each place on the way down the next digit of the key, to the base B, chooses one of B
+// branches. With two branches keys of 32 bits have ways of 33 places at most, whatever they are, and keys of 64 bits of 65; with four, 17 and 33.
+ghost use Rattle.std.specs.Prelude.{◌≡◌, ℕ, ◌<◌, length};
+ghost use Rattle.trees.specs.work.Trees.{Tree, top_for, link_to, Sought};
 ghost use Rattle.trees.specs.work.Keys.{key_in};
-ghost use Rattle.trees.specs.work.Planted.{key_branches, top_at, KeysSearched, KeyPlanting, KeysGrowing, KeyTops};
+ghost use Rattle.trees.specs.work.Planted.{Planting, Growing, KeyTops};
 
 use crate::TREES;
-use counting::wide16;
 
-// The branches of a place. A link is one more than a place, or 0.
-pub(crate) const BRANCHES: usize = 2;
+// Keys at places, in whatever memory they lie.
+pub trait Keys {
+    ghost places: { Self → ℕ };
 
-// Where the way of a key ends among the first n keys, of which those from place low on are planted: at the link to the last place with the key, or at an
-// empty one.
-fn seek(keys: &[usize], n: usize, low: usize, links: &[u16], key: usize) -> usize
-    requires { KeysSearched keys.now n low links.now }
-    ensures { Sought key_branches (key_in keys.now) n low links.now key result }
+    ghost key_at: { Self → ℕ → ℕ };
+
+    // How many places there are.
+    fn count(&self) -> usize
+        ensures { result ≡ places self.now };
+
+    // The key at a place.
+    fn key(&self, place: usize) -> usize
+        requires { place < places self.now }
+        ensures { result ≡ key_at self.now place };
+}
+
+impl Keys for &[usize] {
+    ghost places = { λ keys. length keys.now };
+
+    ghost key_at = { λ keys. key_in keys.now };
+
+    fn count(&self) -> usize {
+        self.len()
+    }
+
+    fn key(&self, place: usize) -> usize {
+        self[place]
+    }
+}
+
+// Where the way of a key ends, if the places from low on are planted: at the link to the last place with the key, or at an empty one. A link is one more
+// than a place, or 0.
+fn seek<K: Keys, const B: usize>(keys: &K, low: usize, links: &[u16], key: usize) -> usize
+    requires some { 0 < B }
+    requires tree { Tree B (K.key_at keys.now) (K.places keys.now) low links.now }
+    ensures { Sought B (K.key_at keys.now) (K.places keys.now) low links.now key result }
 {
     let mut at = key % TREES;
     let mut rest = key;
-    let mut j = wide16(links[at]);
+    let mut j = links[at] as usize;
+    // Stays: a while, since the next place comes from the links and not from a range.
     while 0 < j {
-        if keys[j - 1] == key {
+        if keys.key(j - 1) == key {
             return at;
         }
-        at = TREES + BRANCHES * (j - 1) + rest % BRANCHES;
-        rest = rest / BRANCHES;
-        j = wide16(links[at]);
+        at = TREES + B * (j - 1) + rest % B;
+        rest = rest / B;
+        j = links[at] as usize;
     }
     at
 }
 
 // Plants place i, unless a later one with its key stands; those after it are planted. Answers one more than the last place with its key.
-fn plant(keys: &[usize], n: usize, i: usize, links: &mut [u16]) -> usize
-    requires { KeyPlanting keys.now n i links.old }
-    ensures value { result ≡ top_at keys.now n i }
-    ensures tree { Tree key_branches (key_in keys.now) n i links.new }
+fn plant<K: Keys, const B: usize>(keys: &K, i: usize, links: &mut [u16]) -> usize
+    requires { Planting B (K.key_at keys.now) (K.places keys.now) i links.old }
+    ensures value { result ≡ top_for (K.key_at keys.now) (K.places keys.now) (K.key_at keys.now i) }
+    ensures tree { Tree B (K.key_at keys.now) (K.places keys.now) i links.new }
 {
-    let key = keys[i];
-    let at = seek(keys, n, i + 1, links, key);
-    let p = wide16(links[at]);
+    let at = seek::<K, B>(keys, i + 1, links, keys.key(i));
+    let p = links[at] as usize;
     if 0 < p {
         return p;
     }
@@ -48,25 +74,23 @@ fn plant(keys: &[usize], n: usize, i: usize, links: &mut [u16]) -> usize
     i + 1
 }
 
-// Plants the first n places, and fills in, for each, one more than the last with its key.
-pub(crate) fn grow(keys: &[usize], n: usize, links: &mut [u16], tops: &mut [u16])
-    requires { KeysGrowing keys.now n links.old tops.old }
-    ensures tree { Tree key_branches (key_in keys.now) n 0 links.new }
-    ensures key_tops { KeyTops keys.now n 0 tops.old tops.new }
+// Plants all places, and fills in, for each, one more than the last with its key.
+pub fn grow<K: Keys, const B: usize>(keys: &K, links: &mut [u16], tops: &mut [u16])
+    requires { Growing B (K.key_at keys.now) (K.places keys.now) links.old tops.old }
+    ensures tree { Tree B (K.key_at keys.now) (K.places keys.now) 0 links.new }
+    ensures key_tops { KeyTops (K.key_at keys.now) (K.places keys.now) 0 tops.old tops.new }
 {
-    let mut i = n;
-    while 0 < i {
-        i -= 1;
-        let p = plant(keys, n, i, links);
-        tops[i] = p as u16;
+    for i in (0..keys.count()).rev() {
+        tops[i] = plant::<K, B>(keys, i, links) as u16;
     }
 }
 
-// One more than the last of n places with this key, or 0.
-pub(crate) fn latest(keys: &[usize], n: usize, links: &[u16], key: usize) -> usize
-    requires { KeysSearched keys.now n 0 links.now }
-    ensures { result ≡ top_for (key_in keys.now) n key }
+// The last place with this key, where one has it.
+pub fn latest<K: Keys, const B: usize>(keys: &K, links: &[u16], key: usize) -> Option<usize>
+    requires some { 0 < B }
+    requires tree { Tree B (K.key_at keys.now) (K.places keys.now) 0 links.now }
+    ensures { link_to result ≡ top_for (K.key_at keys.now) (K.places keys.now) key }
 {
-    let at = seek(keys, n, 0, links, key);
-    wide16(links[at])
+    let at = seek::<K, B>(keys, 0, links, key);
+    (links[at] as usize).checked_sub(1)
 }

@@ -1,41 +1,40 @@
 -- The keys of a list in trees: what the functions ask of each other.
-use Rattle.std.specs.Prelude.{ℕ, ◌+◌, ◌*◌, ◌-◌, ◌%◌, ◌≤◌, ◌<◌, ◌≡◌, List, ltb, length, get_or}
+use Rattle.std.specs.Prelude.{ℕ, ◌+◌, ◌*◌, ◌-◌, ◌%◌, ◌≤◌, ◌<◌, ◌≡◌, Bool, List, Option, Some, None, ltb, length, get_or}
 use Rattle.counting.specs.Pick.{pick}
 use Rattle.counting.specs.Lists.{seek}
 use Rattle.trees.specs.work.Trees.{trees, top_for, Tree, Tops}
 use Rattle.trees.specs.work.Keys.{most_places, key_in, pair_has, below_or}
 
--- the branches of a place
+-- the branches of a place in a list
 abbrev pub key_branches : ℕ
 key_branches = 2
+
+-- the most links
+abbrev pub most_links : ℕ
+most_links = trees + key_branches * most_places
 
 -- one more than the last of n places with place i's key
 abbrev pub top_at : List ℕ → ℕ → ℕ → ℕ
 top_at keys n i = top_for (key_in keys) n (key_in keys i)
 
--- what follows a key's way: of n keys those from place low on are planted
-pub record KeysSearched (keys : List ℕ) (n low : ℕ) (links : List ℕ) : Type 0 where
-  pub keyed : n ≤ length keys
-  pub tree : Tree key_branches (key_in keys) n low links
-
--- what plants place i of them, after all the later ones
-pub record KeyPlanting (keys : List ℕ) (n i : ℕ) (links : List ℕ) : Type 0 where
-  pub keyed : n ≤ length keys
+-- what plants place i of n, after all the later ones
+pub record Planting (b : ℕ) (key : ℕ → ℕ) (n i : ℕ) (links : List ℕ) : Type 0 where
+  pub some : 0 < b
   pub few : n ≤ most_places
   pub one : i < n
-  pub tree : Tree key_branches (key_in keys) n (i + 1) links
+  pub tree : Tree b key n (i + 1) links
 
 -- what plants them all: empty links, and room
-pub record KeysGrowing (keys : List ℕ) (n : ℕ) (links tops : List ℕ) : Type 0 where
-  pub keyed : n ≤ length keys
+pub record Growing (b : ℕ) (key : ℕ → ℕ) (n : ℕ) (links tops : List ℕ) : Type 0 where
+  pub some : 0 < b
   pub few : n ≤ most_places
-  pub room : trees + key_branches * n ≤ length links
+  pub room : trees + b * n ≤ length links
   pub blank : (y : ℕ) → get_or links y 0 ≡ 0
   pub tops_room : n ≤ length tops
 
 -- what it leaves: for each place from low on, one more than the last with its key; the entries beyond n as they were
-pub record KeyTops (keys : List ℕ) (n low : ℕ) (was tops : List ℕ) : Type 0 where
-  pub tops_are : Tops (key_in keys) n low tops
+pub record KeyTops (key : ℕ → ℕ) (n low : ℕ) (was tops : List ℕ) : Type 0 where
+  pub tops_are : Tops key n low tops
   pub same : length tops ≡ length was
   pub rest : (i : ℕ) → n ≤ i → get_or tops i 0 ≡ get_or was i 0
 
@@ -54,9 +53,13 @@ met = 32768
 abbrev pub pair_from : List ℕ → ℕ → List ℕ → ℕ → ℕ → ℕ
 pair_from pairs m keys e j = seek (pair_has pairs (key_in keys j)) (m - e) e
 
+-- the lowest number below m, from e on, that passes, where one does
+abbrev pub lowest_from : (ℕ → Bool) → ℕ → ℕ → Option ℕ
+lowest_from t m e = pick (ltb (seek t (m - e) e) m) (Some (seek t (m - e) e)) None
+
 -- what marks the tops that a pair has: all the places planted, and room
 pub record PairsLent (keys : List ℕ) (n : ℕ) (links tops places : List ℕ) : Type 0 where
-  pub searched : KeysSearched keys n 0 links
+  pub tree : Tree key_branches (key_in keys) n 0 links
   pub few : n ≤ most_places
   pub tops_are : Tops (key_in keys) n 0 tops
   pub room : n ≤ length places

@@ -2,7 +2,7 @@
 -- stand the links to the trees, one for each remainder of a key, then b branches of each place; a way down takes a digit of the key, to the base b, at
 -- each place, from the lowest on. The place at depth d has the first d digits of each key whose way passes it, so a key of d digits has ways of d + 1
 -- places at most.
-use Rattle.std.specs.Prelude.{ℕ, zero, suc, ◌+◌, ◌-◌, ◌*◌, ◌/◌, ◌%◌, ◌≤◌, ◌<◌, ◌≡◌, Bool, List, ltb, eqb, length, get_or}
+use Rattle.std.specs.Prelude.{ℕ, zero, suc, ◌+◌, ◌-◌, ◌*◌, ◌/◌, ◌%◌, ◌≤◌, ◌<◌, ◌≡◌, Bool, List, Option, Some, None, ltb, eqb, length, get_or}
 use Rattle.counting.specs.Pick.{pick}
 use Rattle.counting.specs.Search.{last}
 
@@ -16,6 +16,11 @@ has_key key x i = eqb (key i) x
 
 abbrev pub top_for : (ℕ → ℕ) → ℕ → ℕ → ℕ
 top_for key n x = last (has_key key x) n
+
+-- the link to a place: one more than it, or 0 for none
+abbrev pub link_to : Option ℕ → ℕ
+link_to None = 0
+link_to (Some i) = suc i
 
 -- for each place from low on, one more than the last with its key
 pub record Tops (key : ℕ → ℕ) (n low : ℕ) (tops : List ℕ) : Type 0 where

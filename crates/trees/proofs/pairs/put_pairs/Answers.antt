@@ -6,14 +6,14 @@ use Rattle.trees.proofs.pairs.put_pairs.Goals as goal
 pub mark-lowest-requires : goal.mark-lowest-requires
 mark-lowest-requires c = let p = c.requires in
     let g = c.grow.ensures in
-    record { searched = record { keyed = p.keys_growing.keyed; tree = g.tree }; few = p.keys_growing.few; tops_are = g.key_tops.tops_are; room = p.n_in_bounds }
+    record { tree = g.tree; few = p.growing.few; tops_are = g.key_tops.tops_are; room = p.n_in_bounds }
 
 pub spread-requires : goal.spread-requires
 spread-requires c = let p = c.requires in
     let m = c.mark-lowest.ensures.pairs_marked in
-    record { topped = topped _ _ _ _ _ _ _ p.keys_growing.few p.n_in_bounds m; n_in_bounds = omega (arith, p.n_in_bounds, m.same) }
+    record { topped = topped _ _ _ _ _ _ _ p.growing.few p.n_in_bounds m; n_in_bounds = omega (arith, p.n_in_bounds, m.same) }
 
 pub returns : goal.returns
 returns c = let p = c.requires in
     let m = c.mark-lowest.ensures in
-    record { value = m.value; places_after = c.spread.ensures ∙ spread_all _ _ _ _ _ _ _ p.keys_growing.few p.n_in_bounds m.pairs_marked }
+    record { value = m.value; places_after = c.spread.ensures ∙ spread_all _ _ _ _ _ _ _ p.growing.few p.n_in_bounds m.pairs_marked }

@@ -1,4 +1,4 @@
-use Prim.Native.Nat.{◌-◌, ◌≤◌}
+use Prim.Native.Nat.{◌≤◌}
 use mathlib.Core.Path.{◌≡◌}
 use Rattle.counting.specs.Stored.{filled}
 use Rattle.trees.specs.work.Planted.{spread_at}
@@ -6,6 +6,3 @@ use Rattle.trees.proofs.pairs.spread.Given as goal
 
 abbrev pub invariant-loop-j : goal.invariant-loop-j
 invariant-loop-j l = (l.j ≤ l.n) × (l.places ≡ filled (spread_at l.tops l.initial.places) l.j l.initial.places)
-
-abbrev pub decreases-loop-j : goal.decreases-loop-j
-decreases-loop-j l = l.n - l.j

@@ -1,13 +1,9 @@
-use Prim.Native.Nat.{◌≤◌}
 use mathlib.Core.Path.{◌≡◌}
 use lib.ListN.{length}
 use Rattle.trees.specs.work.Trees.{Tree}
-use Rattle.trees.specs.work.Keys.{key_in}
-use Rattle.trees.specs.work.Planted.{key_branches, KeyTops}
+use Rattle.trees.specs.work.Planted.{KeyTops}
 use Rattle.trees.proofs.planting.grow.Given as goal
 
 abbrev pub invariant-loop-i : goal.invariant-loop-i
-invariant-loop-i l = (l.i ≤ l.n) × (length l.links ≡ length l.initial.links) × Tree key_branches (key_in l.keys) l.n l.i l.links × KeyTops l.keys l.n l.i l.initial.tops l.tops
-
-abbrev pub decreases-loop-i : goal.decreases-loop-i
-decreases-loop-i l = l.i
+invariant-loop-i g l = let k = g.K.Keys in
+    (length l.links ≡ length l.initial.links) × Tree g.row.B (k.key_at l.keys) (k.places l.keys) l.i l.links × KeyTops (k.key_at l.keys) (k.places l.keys) l.i l.initial.tops l.tops
