@@ -1,4 +1,5 @@
 -- The edges of the triangles in the list of edges: rows 7 and 8.
+use Rattle.std.specs.Prelude.{Option}
 use Prim.Native.Nat.{ℕ, ◌+◌, ◌*◌, ◌-◌, ◌/◌, ◌%◌, ◌<◌, ◌≤◌, min}
 use mathlib.Core.Path.{◌∙◌, ◌≡◌, ap, sym}
 use mathlib.Core.Bool.{not}
@@ -7,7 +8,7 @@ use native.Mathlib.Omega.{arith}
 use lib.Dec.{eqb}
 use lib.ListN.{get_or, length, length-replicate, replicate}
 use borrow.Author.Tests.{eqb-false}
-use Rattle.counting.specs.Search.{first, some}
+use Rattle.counting.specs.Search.{first, found, some}
 use Rattle.counting.specs.Stored.{filled}
 use Rattle.counting.proofs.Bools.{eqb_comm}
 use Rattle.counting.proofs.Tables.{filled_table, zeros}
@@ -94,9 +95,10 @@ module _ (G : FlatGrid) {empty : List ℕ} (P : PastRow3 G empty) (small : (i : 
   half : length G.edges / 2 ≡ length G.counts
   half = omega (arith, pairs_fine G.edges G.counts P.pairs)
 
-  pub row_8_is : {r : ℕ} → r ≡ first (keyless G.edges keys (key_room (min (3 * triangles_in G.triangles) (length keys)) (length empty))) (length G.edges / 2)
-      → r ≡ first (unused G) (length G.counts)
-  row_8_is q = q ∙ rw (room_is, half) (unused_first G P.rising small keys w)
+  pub row_8_is : {r : Option ℕ} → r ≡ found (keyless G.edges keys (key_room (min (3 * triangles_in G.triangles) (length keys)) (length empty))) (length G.edges / 2)
+      → r ≡ found (unused G) (length G.counts)
+  unfolding found
+  row_8_is q = q ∙ rw (room_is, half, unused_first G P.rising small keys w)
 
   pub placed_table : {placed : List ℕ}
       → placed ≡ filled (placed_at G.edges (length G.edges / 2) keys empty) (key_room (min (3 * triangles_in G.triangles) (length keys)) (length empty)) empty

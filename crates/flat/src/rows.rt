@@ -59,12 +59,12 @@ fn side_rows(grid: FlatGrid, sides: &mut [usize]) -> Result<u32, Refusal>
     let n = 3 * (grid.triangles.len() / 3);
     let mut keys = [0usize; MOST_SIDES];
     triangles::side_keys(grid.triangles, &mut keys);
-    let p8 = grid::edge_places(grid.edges, &keys, n, sides);
+    let stray = grid::edge_places(grid.edges, &keys, n, sides);
     if let Some(j) = lower_entries(sides, n) {
         return Err(Row::EdgeMissing.at(j / 3));
     }
-    if p8 < grid.counts.len() {
-        return Err(Row::EdgeStray.at(p8));
+    if let Some(e) = stray {
+        return Err(Row::EdgeStray.at(e));
     }
     last_row(grid.counts)
 }

@@ -11,7 +11,7 @@ use Rattle.answer.specs.Refusal.{refusal_numbers}
 use Rattle.grid.proofs.Answers.{where-accepted}
 use Rattle.flat.specs.work.Work.{most_sides}
 use Rattle.flat.specs.Rows.{rows}
-use Rattle.flat.proofs.Answers.{answer_clear, answer_found, answer_last, answer_passes, answer_refuses}
+use Rattle.flat.proofs.Answers.{answer_clear, answer_found, answer_last}
 use Rattle.flat.proofs.Keys.{block_found}
 use Rattle.flat.proofs.Listed.{placed_table, row_8_is, sided, unlisted_first}
 use Rattle.flat.proofs.rows.side_rows.Goals as goal
@@ -22,19 +22,19 @@ returns-in-Some-clause-result_value c = let P = c.requires in
     let K = c.side_keys.ensures in
     let w = filled_table _ _ _ _ K (omega (arith, P.rising.few)) in
     let long = simp length_filled at (ap length K) ∙ length-replicate {A = ℕ} most_sides 0 in
-    let v = placed_table _ P P.small _ w long c.edge_places-p8.ensures.places_after in
+    let v = placed_table _ P P.small _ w long c.edge_places-stray.ensures.places_after in
     let r = unlisted_first _ P.rising P.small _ w _ v in
     ap refusal_numbers c.at.ensures ∙ answer_found _ 7 8 refl _ (block_found _ _ _ (Some _) c.in-Some.ensures.result_value r)
 
-pub returns-then-p8-grid-clause-result_value : goal.returns-then-p8-grid-clause-result_value
+pub returns-in-Some-stray-clause-result_value : goal.returns-in-Some-stray-clause-result_value
 unfolding since rows
-returns-then-p8-grid-clause-result_value c = let P = c.requires in
+returns-in-Some-stray-clause-result_value c = let P = c.requires in
     let K = c.side_keys.ensures in
     let w = filled_table _ _ _ _ K (omega (arith, P.rising.few)) in
     let long = simp length_filled at (ap length K) ∙ length-replicate {A = ℕ} most_sides 0 in
-    let v = placed_table _ P P.small _ w long c.edge_places-p8.ensures.places_after in
+    let v = placed_table _ P P.small _ w long c.edge_places-stray.ensures.places_after in
     let r = unlisted_first _ P.rising P.small _ w _ v in
-    ap refusal_numbers c.at-then-p8-grid.ensures ∙ answer_refuses _ 8 10 refl _ (row_8_is _ P P.small _ w long c.edge_places-p8.ensures.value) c.if-p8-grid.true
+    ap refusal_numbers c.at-in-Some-stray.ensures ∙ answer_found _ 8 10 refl _ (row_8_is _ P P.small _ w long c.in-Some-stray.ensures.value)
     ∙ answer_clear _ 7 8 refl (block_found _ _ _ None c.in_default.ensures.result_value r)
 
 pub returns : goal.returns
@@ -43,11 +43,11 @@ returns c = let P = c.requires in
     let K = c.side_keys.ensures in
     let w = filled_table _ _ _ _ K (omega (arith, P.rising.few)) in
     let long = simp length_filled at (ap length K) ∙ length-replicate {A = ℕ} most_sides 0 in
-    let v = placed_table _ P P.small _ w long c.edge_places-p8.ensures.places_after in
+    let v = placed_table _ P P.small _ w long c.edge_places-stray.ensures.places_after in
     let r = unlisted_first _ P.rising P.small _ w _ v in
     let d = c.in_default.ensures in
     record {
-      result_value = c.last_row.ensures ∙ answer_last _ ∙ answer_passes _ 8 10 refl _ (row_8_is _ P P.small _ w long c.edge_places-p8.ensures.value) c.if-p8-grid.false
+      result_value = c.last_row.ensures ∙ answer_last _ ∙ answer_clear _ 8 10 refl (row_8_is _ P P.small _ w long c.in_default-stray.ensures.value)
           ∙ answer_clear _ 7 8 refl (block_found _ _ _ None d.result_value r);
       where_accepted = where-accepted c.last_row.result (sided _ P.rising P.small _ w _ v _ (sym (found_none _ _ d.result_value)) (omega arith) d.sides_after);
     }
