@@ -6,3 +6,4 @@ pub mod Spots
 pub mod Gains
 pub mod Family
 pub mod Shown
+pub mod Tables

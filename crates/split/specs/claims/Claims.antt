@@ -1,5 +1,5 @@
 -- What is proved of splits, for all counts.
-use Rattle.std.specs.Prelude.{ℕ, ◌+◌, ◌-◌, ◌*◌, ◌/◌, ◌≤◌, ◌<◌, ◌≡◌, List, map, ◌⊎◌, ◌≢◌, Bool, true, false, length, get_or}
+use Rattle.std.specs.Prelude.{ℕ, ◌+◌, ◌-◌, ◌*◌, ◌/◌, ◌≤◌, ◌<◌, ◌≡◌, List, map, ◌⊎◌, ◌≢◌, Bool, true, false, Some, length, get_or}
 use Rattle.place.specs.declared.Place.{Place}
 use Rattle.cell.specs.declared.Cell.{Cell}
 use Rattle.split.specs.Parts.{parts, Part, whole, corners, part_triangles, drawn_triangles, splits_of, no_part, part_cell}
@@ -22,7 +22,7 @@ use Rattle.cell.specs.Level.{is_level_cell}
 use Rattle.cell.specs.claims.Polygons.{local_of, named}
 use Rattle.booking.specs.Booking.{corner_triangles, left_between, larger, smaller, is_spiral, is_split, booked_split}
 use Rattle.booking.specs.claims.Booking.{splits_in, more_in}
-use Rattle.booking.specs.declared.Booking.TheVariants.{Booked}
+use Rattle.booking.specs.declared.Booking.{Booking}
 use Rattle.booking.specs.Answer.{booking_numbers, booking_answer}
 use Rattle.split.specs.Limits.{first_inner_crossing, first_inner_face, word_step}
 use Rattle.booking.specs.Figures.{next_larger, next_smaller, splits, inner_crossings, beside_split}
@@ -86,7 +86,7 @@ BookedByParts = (w : ℕ → ℕ) → is_level_cell w ≡ true → drawn_count w
 
 -- so is what is answered for any counts
 abbrev pub AnswerByParts : Type 0
-AnswerByParts = (w : ℕ → ℕ) (t x y n : ℕ) → booking_numbers (Booked t x y n) ≡ booking_answer w → drawn_count w ≡ n
+AnswerByParts = (w : ℕ → ℕ) (b : Booking) → booking_numbers (Some b) ≡ booking_answer w → drawn_count w ≡ b.triangles
 
 -- and of every cell by value so many are listed
 abbrev pub DrawnByParts : Type 0
@@ -103,7 +103,7 @@ DrawnBooked = (c : Cell) → is_level_cell (count_of c) ≡ true → length (dra
 
 -- so what the booking answers for a cell's counts is the number of the triangles that are drawn of it
 abbrev pub BookingRight : Type 0
-BookingRight = (c : Cell) (t x y n : ℕ) → booking_numbers (Booked t x y n) ≡ booking_answer (count_of c) → length (drawn_triangles c) ≡ n
+BookingRight = (c : Cell) (b : Booking) → booking_numbers (Some b) ≡ booking_answer (count_of c) → length (drawn_triangles c) ≡ b.triangles
 
 -- and of any cell: those of its loops, and what splitting adds (row 12 goes by this, without a walk of what is split)
 abbrev pub DrawnGained : Type 0

@@ -9,7 +9,7 @@ returns-then-splits-eq0 c = let A = c.args in
     record {
       from = P.0;
       within = omega arith;
-      none = λ k a b. omega (arith, P.1, c.if-splits-eq0.true, total_has (splits_at A.counts.now A.sides.now) A.n 0 k (omega arith) (omega arith));
+      none = λ k a b. omega (arith, P.1, c.if-splits-eq0.true, total_has (splits_at A.tables.counts.now A.tables.sides.now) A.n 0 k (omega arith) (omega arith));
       last = λ _. omega arith;
       after = λ h. absurd (omega arith);
     }

@@ -13,19 +13,19 @@ loop-s-init c = (omega arith, stored_none _ 0)
 
 pub next_split-requires : goal.next_split-requires
 next_split-requires c = let A = c.args in
-    (omega arith, c.requires.splits_value ∙ ap (λ m. total (splits_at A.counts.now A.sides.now) m 0) (sym c.drawn-n.ensures))
+    (omega arith, c.requires.splits_value ∙ ap (λ m. total (splits_at A.tables.counts.now A.tables.sides.now) m 0) (sym c.drawn-n.ensures))
 
 pub put_stretch-i-requires : goal.put_stretch-i-requires
 put_stretch-i-requires c = let A = c.args in
-    stretch_room A.cells.now A.counts.now A.names.now A.sides.now A.starts.now c.loop-s.invariant.1 c.requires.starts_in_bounds c.in-Some.ensures.1 (omega (arith, c.drawn-n.ensures))
+    stretch_room A.tables.cells.now A.tables.counts.now A.tables.names.now A.tables.sides.now A.tables.starts.now c.loop-s.invariant.1 c.requires.starts_in_bounds c.in-Some.ensures.1 (omega (arith, c.drawn-n.ensures))
 
 pub put_at-i-requires : goal.put_at-i-requires
 put_at-i-requires c = let A = c.args in
     let P = c.requires in
     let R = c.in-Some.ensures in
     let h = R.1.after R.0 in
-    let S = stretch_written A.cells.now A.counts.now A.names.now A.sides.now A.starts.now c.loop-s.invariant.1 P.starts_in_bounds R.1 (omega (arith, c.drawn-n.ensures)) c.put_stretch-i.ensures in
-    record { splits_value = h.1; c_in_bounds = next_room A.cells.now A.counts.now A.names.now A.sides.now A.starts.now S P.starts_in_bounds (omega (arith, h.0, c.drawn-n.ensures)) }
+    let S = stretch_written A.tables.cells.now A.tables.counts.now A.tables.names.now A.tables.sides.now A.tables.starts.now c.loop-s.invariant.1 P.starts_in_bounds R.1 (omega (arith, c.drawn-n.ensures)) c.put_stretch-i.ensures in
+    record { splits_value = h.1; c_in_bounds = next_room A.tables.cells.now A.tables.counts.now A.tables.names.now A.tables.sides.now A.tables.starts.now S P.starts_in_bounds (omega (arith, h.0, c.drawn-n.ensures)) }
 
 pub overflow_add-c : goal.overflow_add-c
 overflow_add-c c = omega (arith, c.in-Some.ensures.1.within, c.drawn-n.ensures)
@@ -36,15 +36,15 @@ loop-s-smaller c = let R = c.in-Some.ensures in omega (arith, R.1.from, (R.1.aft
 pub loop-s-preserved : goal.loop-s-preserved
 loop-s-preserved c = let A = c.args in
     let R = c.in-Some.ensures in
-    let S = stretch_written A.cells.now A.counts.now A.names.now A.sides.now A.starts.now c.loop-s.invariant.1 c.requires.starts_in_bounds R.1 (omega (arith, c.drawn-n.ensures)) c.put_stretch-i.ensures in
-    (omega (arith, (R.1.after R.0).0), stored_more (words_of (drawn_at A.cells.now A.counts.now A.names.now A.sides.now A.starts.now)) _ S c.put_at-i.ensures)
+    let S = stretch_written A.tables.cells.now A.tables.counts.now A.tables.names.now A.tables.sides.now A.tables.starts.now c.loop-s.invariant.1 c.requires.starts_in_bounds R.1 (omega (arith, c.drawn-n.ensures)) c.put_stretch-i.ensures in
+    (omega (arith, (R.1.after R.0).0), stored_more (words_of (drawn_at A.tables.cells.now A.tables.counts.now A.tables.names.now A.tables.sides.now A.tables.starts.now)) _ S c.put_at-i.ensures)
 
 pub put_stretch-requires : goal.put_stretch-requires
 put_stretch-requires c = let A = c.args in
-    stretch_room A.cells.now A.counts.now A.names.now A.sides.now A.starts.now c.loop-s.invariant.1 c.requires.starts_in_bounds c.in_default.ensures (omega (arith, c.drawn-n.ensures))
+    stretch_room A.tables.cells.now A.tables.counts.now A.tables.names.now A.tables.sides.now A.tables.starts.now c.loop-s.invariant.1 c.requires.starts_in_bounds c.in_default.ensures (omega (arith, c.drawn-n.ensures))
 
 pub returns : goal.returns
 returns c = let A = c.args in
     let P = c.requires in
-    let S = stretch_written A.cells.now A.counts.now A.names.now A.sides.now A.starts.now c.loop-s.invariant.1 P.starts_in_bounds c.in_default.ensures (omega (arith, c.drawn-n.ensures)) c.put_stretch.ensures in
-    all_written A.cells.now A.counts.now A.names.now A.sides.now A.starts.now S P.starts_in_bounds (omega (arith, c.drawn-n.ensures))
+    let S = stretch_written A.tables.cells.now A.tables.counts.now A.tables.names.now A.tables.sides.now A.tables.starts.now c.loop-s.invariant.1 P.starts_in_bounds c.in_default.ensures (omega (arith, c.drawn-n.ensures)) c.put_stretch.ensures in
+    all_written A.tables.cells.now A.tables.counts.now A.tables.names.now A.tables.sides.now A.tables.starts.now S P.starts_in_bounds (omega (arith, c.drawn-n.ensures))

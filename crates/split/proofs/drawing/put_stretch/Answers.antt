@@ -6,4 +6,4 @@ use Rattle.split.proofs.drawing.put_stretch.Goals as goal
 pub returns : goal.returns
 returns c = let A = c.args in
     let w = c.write_cells.ensures in
-    rw (w.0, w.1) (all_put (table_cell A.cells.now A.counts.now A.names.now A.sides.now A.starts.now) A.c A.area.now A.at (A.end - A.c) c.requires)
+    rw (w.0, w.1) (all_put (table_cell A.tables.cells.now A.tables.counts.now A.tables.names.now A.tables.sides.now A.tables.starts.now) A.c A.area.now A.at (A.end - A.c) c.requires)

@@ -8,7 +8,7 @@ loop-e-init c = λ k a b. absurd (omega arith)
 
 pub returns-then-splits-ne0 : goal.returns-then-splits-ne0
 returns-then-splits-ne0 c = let A = c.args in
-    let g = gain_at A.counts.now A.sides.now c.loop-e.e c.counts_at.ensures c.gain_of-splits.ensures in (
+    let g = gain_at A.tables.counts.now A.tables.sides.now c.loop-e.e c.counts_at.ensures c.gain_of-splits.ensures in (
       omega arith,
       record {
         from = omega arith;
@@ -22,8 +22,8 @@ returns-then-splits-ne0 c = let A = c.args in
 pub loop-e-preserved : goal.loop-e-preserved
 loop-e-preserved c = let A = c.args in
     let I = c.loop-e.invariant in
-    let g = gain_at A.counts.now A.sides.now c.loop-e.e c.counts_at.ensures c.gain_of-splits.ensures in
-    none_more A.counts.now A.sides.now I (omega (arith, g.0, c.if-splits-ne0.false))
+    let g = gain_at A.tables.counts.now A.tables.sides.now c.loop-e.e c.counts_at.ensures c.gain_of-splits.ensures in
+    none_more A.tables.counts.now A.tables.sides.now I (omega (arith, g.0, c.if-splits-ne0.false))
 
 pub returns : goal.returns
 returns c =

@@ -4,4 +4,4 @@ use Rattle.split.specs.work.Gains.{splits_at}
 use Rattle.split.proofs.drawing.split_from.Given as goal
 
 abbrev pub invariant-loop-e : goal.invariant-loop-e
-invariant-loop-e l = (k : ℕ) → l.c ≤ k → k < l.e → splits_at l.counts l.sides k ≡ 0
+invariant-loop-e l = (k : ℕ) → l.c ≤ k → k < l.e → splits_at l.tables.counts.now l.tables.sides.now k ≡ 0

@@ -17,7 +17,7 @@ pub loop-c-preserved : goal.loop-c-preserved
 loop-c-preserved c = let A = c.args in
     let L = c.loop-c in
     let p = c.spots_at-p.ensures in
-    let g = spots_at A.cells.now A.counts.now A.names.now A.sides.now A.starts.now L.c refl p in (
+    let g = spots_at A.tables.cells.now A.tables.counts.now A.tables.names.now A.tables.sides.now A.tables.starts.now L.c refl p in (
       summed_more _ _ L.invariant.0 _ g.0 p.few_inner,
       summed_more _ _ L.invariant.1 _ g.1 p.few_more,
     )

@@ -7,7 +7,7 @@ use Rattle.split.proofs.Tables.{splits_drawable}
 use Rattle.split.proofs.spots.middles_at.Goals as goal
 
 pub put_middles-requires : goal.put_middles-requires
-put_middles-requires c = let A = c.args in splits_drawable A.cells.now A.counts.now A.names.now A.sides.now A.starts.now A.c c.cell_at-v.ensures c.requires
+put_middles-requires c = let A = c.args in splits_drawable A.tables.cells.now A.tables.counts.now A.tables.names.now A.tables.sides.now A.tables.starts.now A.c c.cell_at-v.ensures c.requires
 
 pub returns : goal.returns
 returns c = let A = c.args in

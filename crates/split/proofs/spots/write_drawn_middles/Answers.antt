@@ -4,7 +4,7 @@ use Rattle.split.proofs.Spotted.{cells_none, cells_more, cells_all, stretch_midd
 use Rattle.split.proofs.spots.write_drawn_middles.Goals as goal
 
 pub loop-s-init : goal.loop-s-init
-loop-s-init c = let A = c.args in (omega arith, cells_none (middles_at_cell A.cells.now A.counts.now A.names.now A.sides.now A.starts.now A.nodes.now) A.area.now A.at)
+loop-s-init c = let A = c.args in (omega arith, cells_none (middles_at_cell A.tables.cells.now A.tables.counts.now A.tables.names.now A.tables.sides.now A.tables.starts.now A.nodes.now) A.area.now A.at)
 
 pub middles_at-i-requires : goal.middles_at-i-requires
 middles_at-i-requires c = let R = c.in-Some.ensures in (R.1.after R.0).1
@@ -18,10 +18,10 @@ loop-s-smaller c = let R = c.in-Some.ensures in omega (arith, R.1.from, (R.1.aft
 pub loop-s-preserved : goal.loop-s-preserved
 loop-s-preserved c = let A = c.args in
     let R = c.in-Some.ensures in
-    let S = stretch_middles A.cells.now A.counts.now A.names.now A.sides.now A.starts.now A.nodes.now A.area.now A.at c.loop-s.c c.loop-s.invariant.1 R.1 c.middles_stretch-i.ensures in
-    (omega (arith, (R.1.after R.0).0), cells_more (middles_at_cell A.cells.now A.counts.now A.names.now A.sides.now A.starts.now A.nodes.now) A.area.now A.at _ S c.middles_at-i.ensures)
+    let S = stretch_middles A.tables.cells.now A.tables.counts.now A.tables.names.now A.tables.sides.now A.tables.starts.now A.nodes.now A.area.now A.at c.loop-s.c c.loop-s.invariant.1 R.1 c.write_middles-i.ensures in
+    (omega (arith, (R.1.after R.0).0), cells_more (middles_at_cell A.tables.cells.now A.tables.counts.now A.tables.names.now A.tables.sides.now A.tables.starts.now A.nodes.now) A.area.now A.at _ S c.middles_at-i.ensures)
 
 pub returns : goal.returns
 returns c = let A = c.args in
-    let S = stretch_middles A.cells.now A.counts.now A.names.now A.sides.now A.starts.now A.nodes.now A.area.now A.at c.loop-s.c c.loop-s.invariant.1 c.in_default.ensures c.middles_stretch.ensures in
-    cells_all (middles_at_cell A.cells.now A.counts.now A.names.now A.sides.now A.starts.now A.nodes.now) A.area.now A.at _ S c.drawn-n.ensures
+    let S = stretch_middles A.tables.cells.now A.tables.counts.now A.tables.names.now A.tables.sides.now A.tables.starts.now A.nodes.now A.area.now A.at c.loop-s.c c.loop-s.invariant.1 c.in_default.ensures c.write_middles.ensures in
+    cells_all (middles_at_cell A.tables.cells.now A.tables.counts.now A.tables.names.now A.tables.sides.now A.tables.starts.now A.nodes.now) A.area.now A.at _ S c.drawn-n.ensures
