@@ -17,7 +17,9 @@ use Rattle.counting.specs.Lists.{values}
 use Rattle.counting.specs.Stored.{filled}
 use Rattle.counting.proofs.Tables.{filled_table}
 use Rattle.counting.proofs.Lists.{length_singles, values_at}
-use Rattle.counting.proofs.Stored.{stored_not, stored_room}
+use Rattle.std.proofs.lemmas.List.{get_or-take, length-take-le}
+use Rattle.std.proofs.Common.{take}
+use Rattle.counting.proofs.Stored.{filled_ext, stored_not, stored_room}
 use Rattle.counting.proofs.Stores.{get_or_sets_in}
 use Rattle.grid.specs.Check.{check_numbers}
 use Rattle.grid.specs.Grid.{crossings}
@@ -83,6 +85,12 @@ copied ws was words area {m = m} e l k q =
     at i h =
         ap (λ (w : List ℕ). get_or w i 0) e ∙ ap (λ (k : ℕ). get_or (sets was 0 ws) k 0) (sym (zero-add i))
         ∙ get_or_sets_in ws was 0 i 0 (omega arith) (omega arith)
+
+-- of a list no more than a front is copied
+pub front_filled : (made area : List ℕ) (m : ℕ) → m ≤ length made → filled (λ i. get_or (take m made) i 0) (length (take m made)) area ≡ filled (λ i. get_or made i 0) m area
+front_filled made area m h =
+    let e : length (take m made) ≡ m = length-take-le m made h in
+    ap (λ k. filled (λ i. get_or (take m made) i 0) k area) e ∙ filled_ext _ _ m area (λ i l. get_or-take m made i 0 l)
 
 -- the room
 module _ (G : FlatGrid) (before : List ℕ) (w : ℕ) (e : w ≡ length (chains_words G)) where

@@ -76,7 +76,7 @@ fn trace_in<const ROOM: usize>(
     if area.len() < m {
         return Err(Row::ChainArea.at(m));
     }
-    words::copy_words(&words, m, area);
+    words::copy_words(&words[..m], area);
     Ok(m as u32)
 }
 

@@ -3,8 +3,6 @@ ghost use Rattle.std.specs.Prelude.{◌≡◌, ◌+◌, ◌*◌, ◌<◌};
 ghost use Rattle.walk.specs.Darts.{rev};
 ghost use Rattle.flat.specs.work.Work.{step_in, StepTable, Ran, Fresh, Finds, size_by, start_by};
 
-use counting::wide32;
-
 // A walk from a dart: its steps, and the dart after them.
 #[derive(Clone, Copy)]
 pub(crate) struct Walk {
@@ -28,8 +26,9 @@ fn run(next: &[u32], n: usize, d: usize) -> Walk
 {
     let mut k = 0;
     let mut e = d;
+    // Stays: a loop, since the next dart comes from the table and not from a range.
     loop {
-        let f = wide32(next[e]);
+        let f = next[e] as usize;
         if f == d {
             return Walk { steps: k, last: e };
         }
@@ -42,38 +41,32 @@ fn run(next: &[u32], n: usize, d: usize) -> Walk
 }
 
 // The other dart of a dart's crossing.
+#[tactic(auto, unfolding(walk::specs::Darts::rev))]
 fn turned(d: usize) -> usize
     requires { d < 131072 }
     ensures { result ≡ rev d }
 {
-    if d % 2 == 0 {
-        return d + 1;
-    }
-    d - 1
+    if d % 2 == 0 { d + 1 } else { d - 1 }
 }
 
 // The dart at the end with the lower number, of the two to which darts a and b have led.
+#[tactic(auto, unfolding(crate::specs::work::Work::start_by))]
 fn lower_end(a: usize, b: usize) -> usize
     requires a_bound { a < 131072 }
     requires b_bound { b < 131072 }
     ensures { result ≡ start_by a b }
 {
-    if a / 2 < b / 2 {
-        return turned(a);
-    }
-    turned(b)
+    turned(if a / 2 < b / 2 { a } else { b })
 }
 
 // The crossings of a curve with ends, k steps one way and l the other; 0 where it has no segment.
+#[tactic(auto, unfolding(crate::specs::work::Work::size_by))]
 fn path_size(k: usize, l: usize) -> usize
     requires k_bound { k < 65536 }
     requires l_bound { l < 65536 }
     ensures { result ≡ size_by k l }
 {
-    if k + l == 0 {
-        return 0;
-    }
-    k + l + 1
+    if k + l == 0 { 0 } else { k + l + 1 }
 }
 
 // The chain whose least crossing is p, if p is in no chain with a lower one.
@@ -86,7 +79,7 @@ pub(crate) fn chain_at(next: &[u32], n: usize, p: usize) -> Chain
     let w = run(next, n, 2 * p);
     let k = w.steps;
     let a = w.last;
-    if wide32(next[a]) == 2 * p {
+    if next[a] as usize == 2 * p {
         return Chain {
             closed: 1,
             size: k + 1,

@@ -10,7 +10,6 @@ ghost use Rattle.flat.specs.work.Work.{step_in, MarkedOn, StepTable, DartsFrom, 
 
 use crate::CROSSING_MARKS;
 use crate::walks::{Chain, chain_at};
-use counting::{wide32, word16};
 
 // The crossings of m darts, from d on, written from the place at on, and marked.
 fn put_crossings(
@@ -30,12 +29,10 @@ fn put_crossings(
     ensures marked_on { MarkedOn n (step_in n next.now) d m marks.old marks.new }
 {
     let mut e = d;
-    let mut i = 0;
-    while i < m {
+    for i in 0..m {
         area[at + i] = (e / 2) as u16;
         marks[e / 2] = 1;
-        e = wide32(next[e]);
-        i += 1;
+        e = next[e] as usize;
     }
 }
 
@@ -75,28 +72,22 @@ pub(crate) fn put_words(next: &[u32], n: usize, area: &mut [u16]) -> usize
 {
     let mut marks = [0u8; CROSSING_MARKS];
     let mut at = 0;
-    let mut p = 0;
-    while p < n {
+    for p in 0..n {
         if marks[p] != 0 {
-            p += 1;
             continue;
         }
         let c = chain_at(next, n, p);
         at = put_chain(next, n, c, area, at, &mut marks);
-        p += 1;
     }
     at
 }
 
-// The first m words, copied to the front of the area.
-pub(crate) fn copy_words(words: &[u16], m: usize, area: &mut [u32])
-    requires m_in_bounds { m ≤ length words.now }
-    requires m_in_bounds_2 { m ≤ length area.old }
-    ensures { area.new ≡ filled (λ i. get_or words.now i 0) m area.old }
+// The words, copied to the front of the area.
+pub(crate) fn copy_words(words: &[u16], area: &mut [u32])
+    requires { length words.now ≤ length area.old }
+    ensures { area.new ≡ filled (λ i. get_or words.now i 0) (length words.now) area.old }
 {
-    let mut i = 0;
-    while i < m {
-        area[i] = word16(words[i]);
-        i += 1;
+    for i in 0..words.len() {
+        area[i] = words[i] as u32;
     }
 }

@@ -3,12 +3,10 @@ use Prim.Native.Nat.{ℕ, ◌+◌, ◌-◌, ◌<◌, ◌≤◌}
 use mathlib.Core.Path.{◌≡◌, refl, sym, ◌∙◌}
 use mathlib.Core.Logic.{◌⊎◌, inl, inr, ⊎_elim, ◌≢◌}
 use mathlib.Core.Bool.{Bool, true, not, ◌&&◌, ◌||◌}
-use mathlib.Core.List.{[], ◌∷◌}
 use native.Mathlib.Omega.{arith}
 use native.Mathlib.Decide.{dec_lt}
-use lib.Dec.{eqb, ltb, leb}
-use lib.ListN.{get_or-eq_default}
-use borrow.Author.Tests.{eqb-true, eqb-false, ltb-true, eq-eqb, lt-ltb, le-ltb, le-leb, not-true}
+use lib.Dec.{eqb, ltb}
+use borrow.Author.Tests.{eqb-true, eqb-false, ltb-true, eq-eqb, lt-ltb, le-ltb, not-true}
 use Rattle.counting.specs.Pick.{pick}
 use Rattle.counting.specs.Search.{every}
 use Rattle.counting.proofs.Bools.{clash, and_left, and_right, or_cases, imply}
@@ -186,28 +184,3 @@ ends_sum k l = eqb-true _ _ (every_is (λ k. eqb (lo k + hi k) (pick (ltb k 3) (
 pub second_is : (k : ℕ) → k < 6 → pick (eqb k 0) 2 (pick (ltb k 3) 1 0) ≡ second_slot k
 unfolding every second_slot
 second_is k l = eqb-true _ _ (every_is (λ k. eqb (pick (eqb k 0) 2 (pick (ltb k 3) 1 0)) (second_slot k)) 6 refl k l)
-
--- the ends of an edge of a cell, case by case as code finds them
-pub low_first : (k : ℕ) → k < 3 → 0 ≡ lo k
-unfolding every lo
-low_first k l = sym (eqb-true (lo k) 0 (every_is (λ k. eqb (lo k) 0) 3 refl k l))
-
-pub low_then : (k : ℕ) → 3 ≤ k → k < 5 → 1 ≡ lo k
-unfolding every lo
-low_then k a b = sym (eqb-true (lo k) 1 (imply (leb 3 k) (eqb (lo k) 1) (le-leb 3 k a) (every_is (λ k. not (leb 3 k) || eqb (lo k) 1) 5 refl k b)))
-
-pub low_none : (k : ℕ) → 6 ≤ k → 0 ≡ lo k
-unfolding lo
-low_none k a = sym (get_or-eq_default (0 ∷ 0 ∷ 0 ∷ 1 ∷ 1 ∷ 2 ∷ []) 0 a)
-
-pub high_first : (k : ℕ) → k < 3 → k + 1 ≡ hi k
-unfolding every hi
-high_first k l = sym (eqb-true (hi k) (k + 1) (every_is (λ k. eqb (hi k) (k + 1)) 3 refl k l))
-
-pub high_last : (k : ℕ) → 4 ≤ k → k < 6 → 3 ≡ hi k
-unfolding every hi
-high_last k a b = sym (eqb-true (hi k) 3 (imply (leb 4 k) (eqb (hi k) 3) (le-leb 4 k a) (every_is (λ k. not (leb 4 k) || eqb (hi k) 3) 6 refl k b)))
-
-pub high_none : (k : ℕ) → 6 ≤ k → 0 ≡ hi k
-unfolding hi
-high_none k a = sym (get_or-eq_default (1 ∷ 2 ∷ 3 ∷ 2 ∷ 3 ∷ 3 ∷ []) 0 a)

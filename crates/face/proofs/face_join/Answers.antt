@@ -16,8 +16,8 @@ join_on-requires c = let d = edge_counted _ _ _ _ _ c.count_of-x.ensures c.if-x-
       corners = record {
         edge = d;
         own = c.count_of-x.ensures;
-        at_lower = corner_read _ _ _ (low d) r c.lower_end.ensures.0 c.corner_at-p.ensures;
-        at_upper = corner_read _ _ _ (high d) r c.upper_end.ensures.0 c.corner_at-q.ensures;
+        at_lower = corner_read _ _ _ (low d) r c.lower_end.ensures.0 c.at-p.ensures;
+        at_upper = corner_read _ _ _ (high d) r c.upper_end.ensures.0 c.at-q.ensures;
       };
       there = c.if-x-index.false;
     }

@@ -1,10 +1,11 @@
 use Prim.Native.Nat.{ℕ, ◌*◌, ◌≤◌}
-use mathlib.Core.Path.{ap}
+use Rattle.std.proofs.lemmas.List.{length-take}
+use mathlib.Core.Path.{◌∙◌, ap}
 use native.Mathlib.Omega.{arith}
 use lib.ListN.{length, length-replicate, replicate}
 use lib.Seq.{length-sets}
 use Rattle.flat.specs.Lent.{lent}
-use Rattle.flat.proofs.Calls.{is_linked, made_few, made_fits, made_short, words_few}
+use Rattle.flat.proofs.Calls.{front_filled, is_linked, made_few, made_fits, made_short, words_few}
 use Rattle.flat.proofs.Stepped.{sides_are}
 use Rattle.flat.proofs.trace_in.Goals as goal
 
@@ -30,13 +31,7 @@ returns-then-area-m g c =
     rw c.at.ensures (made_short (lent c.args.grid) P.accepted _ P.sides_known _ _ _ P.n_value r c.put_steps.ensures _ _ _ r W.area_after W.value _ c.if-area-m.true)
 
 pub copy_words-requires : goal.copy_words-requires
-copy_words-requires g c =
-    let P = c.requires in
-    let W = c.put_words-m.ensures in
-    let l = length-replicate {A = ℕ} g.row.ROOM 0 in
-    let r : 2 * c.args.n ≤ length (replicate {A = ℕ} g.row.ROOM 0) = omega (arith, l, P.n_in_bounds) in
-    let w = made_few (lent c.args.grid) P.accepted _ P.sides_known _ _ _ P.n_value r c.put_steps.ensures _ _ _ r W.area_after W.value in
-    record { m_in_bounds = omega (arith, w, r, simp length-sets at (ap length W.area_after)); m_in_bounds_2 = omega (arith, c.if-area-m.false) }
+copy_words-requires g c = omega (arith, length-take c.put_words-m.result c.put_words-m.new.area, c.if-area-m.false)
 
 pub overflow_cast-result : goal.overflow_cast-result
 overflow_cast-result g c =
@@ -52,4 +47,12 @@ returns g c =
     let W = c.put_words-m.ensures in
     let l = length-replicate {A = ℕ} g.row.ROOM 0 in
     let r : 2 * c.args.n ≤ length (replicate {A = ℕ} g.row.ROOM 0) = omega (arith, l, P.n_in_bounds) in
-    made_fits (lent c.args.grid) P.accepted _ P.sides_known _ _ _ P.n_value r c.put_steps.ensures _ _ _ r W.area_after W.value _ (omega (arith, c.if-area-m.false)) c.copy_words.ensures
+    made_fits (lent c.args.grid) P.accepted _ P.sides_known _ _ _ P.n_value r c.put_steps.ensures _ _ _ r W.area_after W.value _ (omega (arith, c.if-area-m.false)) (c.copy_words.ensures ∙ front_filled _ _ _ (omega (arith, made_few (lent c.args.grid) P.accepted _ P.sides_known _ _ _ P.n_value r c.put_steps.ensures _ _ _ r W.area_after W.value, r, simp length-sets at (ap length W.area_after))))
+
+pub shared_whole_as_front-copy_words : goal.shared_whole_as_front-copy_words
+shared_whole_as_front-copy_words g c =
+    let P = c.requires in
+    let W = c.put_words-m.ensures in
+    let l = length-replicate {A = ℕ} g.row.ROOM 0 in
+    let r : 2 * c.args.n ≤ length (replicate {A = ℕ} g.row.ROOM 0) = omega (arith, l, P.n_in_bounds) in
+    (omega (arith, made_few (lent c.args.grid) P.accepted _ P.sides_known _ _ _ P.n_value r c.put_steps.ensures _ _ _ r W.area_after W.value, P.n_in_bounds), omega (arith, P.room_small))

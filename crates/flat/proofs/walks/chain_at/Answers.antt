@@ -1,4 +1,4 @@
-use mathlib.Core.Path.{◌∙◌, sym}
+use mathlib.Core.Path.{◌∙◌, refl, sym}
 use native.Mathlib.Omega.{arith}
 use Rattle.flat.proofs.Walked.{closed_finds, open_finds, ran_entry, ran_lt, ran_read, ran_short}
 use Rattle.flat.proofs.walks.chain_at.Goals as goal
@@ -26,10 +26,10 @@ overflow_add-result c = let c-run = c.run-w in
 pub overflow_mul-result : goal.overflow_mul-result
 overflow_mul-result c = omega (arith, c.requires.step_table.few, c.requires.p_lt_n)
 
-pub returns-then-wide32-p : goal.returns-then-wide32-p
-returns-then-wide32-p c = let c-run = c.run-w in
+pub returns-then-next-a : goal.returns-then-next-a
+returns-then-next-a c = let c-run = c.run-w in
     let c-pre = c.requires in
-    closed_finds _ _ c-pre.step_table.turns _ c-pre.p_lt_n c-pre.fresh c-run.ensures (ran_entry c-pre.step_table c-run.ensures c.wide32.ensures.0 ∙ c.if-wide32-p.true)
+    closed_finds _ _ c-pre.step_table.turns _ c-pre.p_lt_n c-pre.fresh c-run.ensures (ran_entry c-pre.step_table c-run.ensures refl ∙ c.if-next-a.true)
 
 pub overflow_mul-p-3 : goal.overflow_mul-p-3
 overflow_mul-p-3 c = omega (arith, c.requires.step_table.few, c.requires.p_lt_n)
@@ -51,8 +51,7 @@ lower_end-start-requires c = let c-run = c.run-w in
     record { a_bound = omega (arith, ran_lt _ _ c-run.ensures, c-pre.step_table.few); b_bound = omega (arith, ran_lt _ _ c.run-v.ensures, c-pre.step_table.few) }
 
 pub returns : goal.returns
-returns c = let c-if1 = c.if-wide32-p in
-    let c-size = c.wide32 in
+returns c = let c-if1 = c.if-next-a in
     let c-run = c.run-w in
     let c-pre = c.requires in
-    rw (c.path_size-count.ensures, c.lower_end-start.ensures) (open_finds _ _ c-pre.step_table.turns _ c-pre.p_lt_n c-pre.fresh c-run.ensures c.run-v.ensures (λ z. c-if1.false (sym (ran_entry c-pre.step_table c-run.ensures c-size.ensures.0) ∙ z)))
+    rw (c.path_size-count.ensures, c.lower_end-start.ensures) (open_finds _ _ c-pre.step_table.turns _ c-pre.p_lt_n c-pre.fresh c-run.ensures c.run-v.ensures (λ z. c-if1.false (sym (ran_entry c-pre.step_table c-run.ensures refl) ∙ z)))

@@ -1,3 +1,4 @@
+use mathlib.Core.Path.{refl}
 use native.Mathlib.Omega.{arith}
 use Rattle.flat.proofs.Walked.{run-end, run_home, run_more, run_read, run_short, running_lt, running_none}
 use Rattle.flat.proofs.walks.run.Goals as goal
@@ -14,7 +15,7 @@ bounds-next-e c = run_read c.requires.step_table c.loop-n.invariant
 pub returns-then-f-d : goal.returns-then-f-d
 returns-then-f-d c = let c-loop = c.loop-n in
     let c-pre = c.requires in
-    run_home c-pre.step_table c-loop.invariant _ c.wide32-f.ensures.0 c.if-f-d.true
+    run_home c-pre.step_table c-loop.invariant _ refl c.if-f-d.true
 
 pub overflow_mul-n : goal.overflow_mul-n
 overflow_mul-n c = omega (arith, c.requires.step_table.few)
@@ -22,7 +23,7 @@ overflow_mul-n c = omega (arith, c.requires.step_table.few)
 pub returns-then-n-f : goal.returns-then-n-f
 returns-then-n-f c = let c-loop = c.loop-n in
     let c-pre = c.requires in
-    run-end c-pre.step_table c-loop.invariant _ c.wide32-f.ensures.0 c.if-n-f.true
+    run-end c-pre.step_table c-loop.invariant _ refl c.if-n-f.true
 
 pub overflow_add-k : goal.overflow_add-k
 overflow_add-k c = let c-loop = c.loop-n in
@@ -35,4 +36,4 @@ loop-n-smaller c = omega (arith, run_short c.requires.step_table c.loop-n.invari
 pub loop-n-preserved : goal.loop-n-preserved
 loop-n-preserved c = let c-loop = c.loop-n in
     let c-pre = c.requires in
-    run_more c-pre.step_table c-loop.invariant _ c.wide32-f.ensures.0 c.if-f-d.false c.if-n-f.false
+    run_more c-pre.step_table c-loop.invariant _ refl c.if-f-d.false c.if-n-f.false

@@ -1,3 +1,4 @@
+use mathlib.Core.Path.{refl}
 use native.Mathlib.Omega.{arith}
 use Rattle.flat.proofs.Walked.{list_few, list_more, list_read, listing_all, listing_long, listing_none, mark_more, mark_place, marking_all, marking_none}
 use Rattle.flat.proofs.words.put_crossings.Goals as goal
@@ -30,7 +31,7 @@ bounds-next-e c = let c-pre = c.requires in
 pub loop-i-preserved : goal.loop-i-preserved
 loop-i-preserved c = let c-loop = c.loop-i in
     let c-pre = c.requires in
-    (list_more c-pre.step_table c-pre.darts_from c-loop.invariant.0 (omega arith) _ c.wide32-e.ensures.0, mark_more c-pre.step_table c-pre.darts_from c-loop.invariant.1 (omega arith) _ c.wide32-e.ensures.0)
+    (list_more c-pre.step_table c-pre.darts_from c-loop.invariant.0 (omega arith) _ refl, mark_more c-pre.step_table c-pre.darts_from c-loop.invariant.1 (omega arith) _ refl)
 
 pub shape_of-area : goal.shape_of-area
 shape_of-area c = listing_long _ _ c.loop-i.invariant.0

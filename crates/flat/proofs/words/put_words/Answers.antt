@@ -16,9 +16,6 @@ loop-p-init c = let c-pre = c.requires in
 pub bounds-marks-p : goal.bounds-marks-p
 bounds-marks-p c = omega (arith, c.requires.step_table.few)
 
-pub overflow_add-p : goal.overflow_add-p
-overflow_add-p c = omega (arith, c.requires.step_table.few)
-
 pub loop-p-preserved-then-marks-p-ne0 : goal.loop-p-preserved-then-marks-p-ne0
 loop-p-preserved-then-marks-p-ne0 c = let c-loop = c.loop-p in
     let c-pre = c.requires in
@@ -35,9 +32,6 @@ put_chain-at-requires c = let c-chain-at = c.chain_at-c in
     let c-loop = c.loop-p in
     let c-pre = c.requires in
     record { step_table = c-pre.step_table; darts_from = finds_runs _ _ c-pre.step_table.turns (omega arith) c-chain-at.ensures; size_le_n = finds_short _ _ c-pre.step_table.turns (omega arith) c-chain-at.ensures; start_in_bounds = writing_room _ _ c-pre.step_table.turns c-loop.invariant.1 (omega arith) c-chain-at.ensures; n_in_bounds = c-loop.invariant.1.swept.room }
-
-pub overflow_add-p-in-loop-p : goal.overflow_add-p-in-loop-p
-overflow_add-p-in-loop-p c = omega (arith, c.requires.step_table.few)
 
 pub loop-p-preserved : goal.loop-p-preserved
 loop-p-preserved c = let c-put-chain = c.put_chain-at in

@@ -1,7 +1,7 @@
 use mathlib.Core.Path.{refl}
 use Rattle.face.specs.Face.{partner}
 use Rattle.face.proofs.Calls.{partner_fits}
-use Rattle.face.proofs.partner_of.Goals as goal
+use Rattle.face.proofs.Face.partner_of.Goals as goal
 
 pub kth_of-requires : goal.kth_of-requires
 kth_of-requires c = rw c.other_edge-e.ensures (partner_fits c.requires)

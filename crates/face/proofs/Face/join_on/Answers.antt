@@ -3,7 +3,7 @@ use native.Mathlib.Omega.{arith}
 use Rattle.face.specs.declared.Stand.TheVariants.{Low, High, Up, Down, Alone}
 use Rattle.face.proofs.Stands.{stands}
 use Rattle.face.proofs.Calls.{upper_fits, low_at, low_join, high_at, high_join, up_join, down_join, alone_join, own_within}
-use Rattle.face.proofs.join_on.Goals as goal
+use Rattle.face.proofs.Face.join_on.Goals as goal
 
 pub overflow_sub-x : goal.overflow_sub-x
 overflow_sub-x c = upper_fits c.requires
