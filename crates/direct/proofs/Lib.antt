@@ -13,3 +13,4 @@ pub mod Sorted
 pub mod Cells
 pub mod Over
 pub mod Laying
+pub mod LevelCells

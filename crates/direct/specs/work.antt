@@ -2,3 +2,4 @@
 pub mod Rows
 pub mod Cells
 pub mod Laid
+pub mod Loops

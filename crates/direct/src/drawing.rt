@@ -1,17 +1,18 @@
 // The triangles of the cells of a grid's tables, written: those of level cells with d2 = 0 without a walk.
 ghost use Rattle.std.specs.Prelude.{◌≡◌, ◌+◌, ◌-◌, ◌*◌, ◌≤◌, ◌<◌, leb, length};
-ghost use Rattle.cell.specs.Of.{edges_of};
+ghost use Rattle.cell.specs.Of.{count_of, edges_of};
 ghost use Rattle.cell.specs.claims.Claims.{Rising};
 ghost use Rattle.cell.specs.work.Fits.{next_at, area_then, next_after, area_after};
 ghost use Rattle.cell.specs.work.Limits.{most_in_cell};
 ghost use Rattle.cell.specs.work.Tables.{cell_in};
 ghost use Rattle.cell.specs.Triangles.{cell_triangles};
 ghost use Rattle.cell.specs.Words.{word_count};
-ghost use Rattle.direct.specs.work.Rows.{Ready};
+ghost use Rattle.booking.specs.Booking.{smaller};
 ghost use Rattle.direct.specs.work.Cells.{Came, longest_block};
 
-use super::{Reached, is_rising, plain_of, put_all};
-use cell::{Cell, Tables, WORD_COUNT};
+use super::level::LevelCell;
+use super::{Reached, is_rising, plain_of};
+use cell::{Tables, WORD_COUNT};
 
 // Whether n triangles have room from index `at` on in an area of `room` words.
 pub(crate) fn fits(room: usize, at: usize, n: usize) -> bool
@@ -21,22 +22,17 @@ pub(crate) fn fits(room: usize, at: usize, n: usize) -> bool
     at <= room && WORD_COUNT * n <= room - at
 }
 
-// Writes the words of the n triangles of a level cell with d2 = 0 from index `at` on, where they have room there, and answers the next index.
-fn put_fitting(
-    c: Cell,
-    six: [u16; 6],
-    own: [u32; 4],
-    n: usize,
-    area: &mut [u32],
-    at: usize,
-) -> usize
-    requires { Ready c six own × Rising (edges_of c) × (n ≡ length (cell_triangles c)) }
-    ensures { (result ≡ next_at c area.old at) × (area.new ≡ area_then c area.old at) }
-{
-    if fits(area.len(), at, n) {
-        return put_all(c, six, own, area, at);
+impl LevelCell {
+    // Writes the words of the n triangles of a level cell with d2 = 0 from index `at` on, where they have room there, and answers the next index.
+    fn put_fitting(&self, n: usize, area: &mut [u32], at: usize) -> usize
+        requires { (smaller (count_of self.now.cell) ≡ 0) × Rising (edges_of self.now.cell) × (n ≡ length (cell_triangles self.now.cell)) }
+        ensures { (result ≡ next_at self.now.cell area.old at) × (area.new ≡ area_then self.now.cell area.old at) }
+    {
+        if fits(area.len(), at, n) {
+            return self.put_all(area, at);
+        }
+        at
     }
-    at
 }
 
 // Writes the words of the triangles of the cells from c on, up to `end` or to a cell that is to be walked, from index `at` on, each cell's where they have
@@ -59,7 +55,8 @@ fn put_plain(tables: Tables, c: usize, end: usize, area: &mut [u32], at: usize) 
             return Reached { cell: k, at: i };
         }
         let own = d.own;
-        i = put_fitting(v, six, own, d.triangles, area, i);
+        let level = LevelCell { cell: v, six, own };
+        i = level.put_fitting(d.triangles, area, i);
     }
     Reached {
         cell: c.max(end),

@@ -1,7 +1,6 @@
 // The triangles of a level cell whose edges are laid in any order, as in the parts of a split cell, written without a walk: all of them where d2 = 0, or those of
 // its corners alone.
 ghost use Rattle.std.specs.Prelude.{◌≡◌, true, false, IfSome, [], ◌∷◌, ◌+◌, ◌*◌, ◌≤◌, ◌<◌, eqb, length};
-ghost use Rattle.counting.specs.Pick.{pick};
 ghost use Rattle.counting.specs.work.Stored.{Stored};
 ghost use Rattle.counting.specs.Stored.{stored_in};
 ghost use Rattle.counting.specs.claims.Lists.{next_in};
@@ -11,17 +10,18 @@ ghost use Rattle.slots.specs.Limits.{most_count};
 ghost use Rattle.cell.specs.Cell.{ahead, base, crossings, edge};
 ghost use Rattle.cell.specs.Of.{count_of, edges_of};
 ghost use Rattle.cell.specs.work.Route.{limited, Near, Firsts};
-ghost use Rattle.cell.specs.claims.Nodes.{Arranged};
 ghost use Rattle.cell.specs.Nodes.{joining};
 ghost use Rattle.cell.specs.Level.{by_edge};
 ghost use Rattle.cell.specs.Triangles.{triangles_with};
 ghost use Rattle.cell.specs.Words.{all_words};
-ghost use Rattle.direct.specs.claims.Direct.{passed, acrosses, rounds};
-ghost use Rattle.direct.specs.work.Rows.{Listed, Round, Parting};
-ghost use Rattle.direct.specs.work.Laid.{ring_on, parting_on, quads_on, laid_on, length_asked, Laying, Laid, AtStart, SixEach, cell_of};
+ghost use Rattle.booking.specs.Booking.{left_between, smaller};
+ghost use Rattle.direct.specs.claims.Direct.{passed};
+ghost use Rattle.direct.specs.work.Laid.{laid_on, length_asked, Laying, AtStart, SixEach, cell_of};
+ghost use Rattle.direct.specs.work.Loops.{ring_loops, started_loops, middle_loops};
 
 use super::drawing::fits;
-use super::{joining_of, left_of, own_of, plain_of, put_fours, put_round, row_of};
+use super::level::{LevelCell, Nodes};
+use super::{joining_of, left_of, own_of, plain_of};
 use cell::Cell;
 use slots::{high_end, low_end};
 
@@ -50,142 +50,76 @@ fn passes_three(c: Cell, k: usize, h: usize, i: usize, j: usize) -> bool
     is_before(c, k, h) || passes(c, k, i, j)
 }
 
-// Writes the triangles of the n loops round a that start on its edge k to b, where they start there: they have room from index `at` on. Answers the next
-// index.
-fn put_ring(
-    c: Cell,
-    six: [u16; 6],
-    n: u32,
-    k: usize,
-    up: bool,
-    a: u32,
-    b: u32,
-    x: u32,
-    d: u32,
-    area: &mut [u32],
-    at: usize,
-) -> usize
-    requires listed { Listed c six × Round c n a b x d × (k < 6) }
-    requires d_in_bounds { at + length (all_words (ring_on c k up a b x d)) ≤ length area.old }
-    ensures { Stored area.old at (all_words (ring_on c k up a b x d)) area.new result }
-{
-    if n == 0 {
-        return at;
+impl LevelCell {
+    // Writes the triangles of the loops round a that start on its edge k to b, where they start there: they have room from index `at` on. Answers the next
+    // index.
+    fn put_ring(&self, k: usize, up: bool, nodes: Nodes, area: &mut [u32], at: usize) -> usize
+        requires k_lt { k < 6 }
+        requires nodes_in_bounds { at + length (all_words (ring_loops self.now.cell k up nodes)) ≤ length area.old }
+        ensures { Stored area.old at (all_words (ring_loops self.now.cell k up nodes)) area.new result }
+    {
+        let h = joining_of(nodes.a, nodes.c);
+        let i = joining_of(nodes.a, nodes.d);
+        if self.own[nodes.a as usize] == 0 || passes(self.cell, k, h, i) {
+            return at;
+        }
+        self.put_round(up, nodes, area, at)
     }
-    if passes(c, k, joining_of(a, x), joining_of(a, d)) {
-        return at;
-    }
-    put_round(c, six, n, up, a, b, x, d, area, at)
-}
 
-// The same of the n quads that part a and m, with so many corner triangles, from u and v, and start on au; they lead on to mu or to av. For whole cells
-// there are `put_across` and `put_rounds`, so that the compiler knows the positions (SPEED.md).
-fn put_parting(
-    c: Cell,
-    six: [u16; 6],
-    n: u32,
-    s: u32,
-    t: u32,
-    over: bool,
-    a: u32,
-    m: u32,
-    u: u32,
-    v: u32,
-    area: &mut [u32],
-    at: usize,
-) -> usize
-    requires listed { Listed c six × Parting c n s t a m u v × (0 < n) }
-    requires v_in_bounds { at + length (all_words (pick over (acrosses c a m u v) (rounds c a m u v))) ≤ length area.old }
-    ensures { Stored area.old at (all_words (pick over (acrosses c a m u v) (rounds c a m u v))) area.new result }
-{
-    let p = row_of(c, six, a, u, s, true);
-    let q = row_of(c, six, a, v, s, true);
-    let r = row_of(c, six, m, u, t, true);
-    let w = row_of(c, six, m, v, t, true);
-    if over {
-        return put_fours(
-            c, n, p, r, w, q, v as usize, a as usize, u as usize, m as usize, area, at,
-        );
+    // The same of the n quads that part a and b from c and d, and start on the edge k = ac; they lead on to bc or to ad.
+    fn put_started(
+        &self,
+        n: u32,
+        k: usize,
+        over: bool,
+        nodes: Nodes,
+        area: &mut [u32],
+        at: usize,
+    ) -> usize
+        requires parting { (left_between (count_of self.now.cell) nodes.a nodes.b ≡ 0) × (n ≡ left_between (count_of self.now.cell) nodes.a nodes.c) × (k < 6) }
+        requires nodes_in_bounds { at + length (all_words (started_loops self.now.cell k over nodes)) ≤ length area.old }
+        ensures { Stored area.old at (all_words (started_loops self.now.cell k over nodes)) area.new result }
+    {
+        let h = joining_of(nodes.b, nodes.c);
+        let i = joining_of(nodes.b, nodes.d);
+        let j = joining_of(nodes.a, nodes.d);
+        if passes_three(self.cell, k, h, i, j) {
+            return at;
+        }
+        if over {
+            return self.put_across(n, nodes, area, at);
+        }
+        self.put_rounds(n, nodes, area, at)
     }
-    put_fours(
-        c, n, p, q, w, r, m as usize, u as usize, a as usize, v as usize, area, at,
-    )
-}
 
-// The same where they start on the edge k = au.
-fn put_started(
-    c: Cell,
-    six: [u16; 6],
-    n: u32,
-    k: usize,
-    s: u32,
-    t: u32,
-    over: bool,
-    a: u32,
-    m: u32,
-    u: u32,
-    v: u32,
-    area: &mut [u32],
-    at: usize,
-) -> usize
-    requires listed { Listed c six × Parting c n s t a m u v × (0 < n) × (k < 6) }
-    requires v_in_bounds { at + length (all_words (parting_on c k over a m u v)) ≤ length area.old }
-    ensures { Stored area.old at (all_words (parting_on c k over a m u v)) area.new result }
-{
-    let h = joining_of(m, u);
-    let i = joining_of(m, v);
-    let j = joining_of(a, v);
-    if passes_three(c, k, h, i, j) {
-        return at;
+    // All quads on the edge k = ab, where they are asked for.
+    fn put_middle(&self, quads: bool, k: usize, nodes: Nodes, area: &mut [u32], at: usize) -> usize
+        requires plain { quads ≡ true → smaller (count_of self.now.cell) ≡ 0 }
+        requires k_is { (k ≡ joining nodes.a nodes.b) × (k < 6) }
+        requires nodes_in_bounds { at + length (all_words (middle_loops self.now.cell quads k nodes)) ≤ length area.old }
+        ensures { Stored area.old at (all_words (middle_loops self.now.cell quads k nodes)) area.new result }
+    {
+        if !quads {
+            return at;
+        }
+        let Nodes { a, b, c, d } = nodes;
+        let s = self.own[a as usize];
+        let n = left_of(self.six[k], s, self.own[b as usize]);
+        if n == 0 {
+            return at;
+        }
+        if left_of(self.six[joining_of(a, c)], s, self.own[c as usize]) == 0 {
+            let beside = Nodes { a, b: c, c: b, d };
+            return self.put_started(n, k, true, beside, area, at);
+        }
+        let opposite = Nodes {
+            a,
+            b: d,
+            c: b,
+            d: c,
+        };
+        self.put_started(n, k, false, opposite, area, at)
     }
-    put_parting(c, six, n, s, t, over, a, m, u, v, area, at)
-}
-
-// All quads on the edge k = ab, where they are asked for.
-fn put_middle(
-    c: Cell,
-    six: [u16; 6],
-    own: [u32; 4],
-    quads: bool,
-    k: usize,
-    a: u32,
-    b: u32,
-    x: u32,
-    d: u32,
-    area: &mut [u32],
-    at: usize,
-) -> usize
-    requires laid { Laid c six own quads × Arranged a b x d × (k ≡ joining a b) × (k < 6) }
-    requires d_in_bounds { at + length (all_words (pick quads (quads_on c k a b x d) [])) ≤ length area.old }
-    ensures { Stored area.old at (all_words (pick quads (quads_on c k a b x d) [])) area.new result }
-{
-    if !quads {
-        return at;
-    }
-    let s = own[a as usize];
-    let n = left_of(six[k], s, own[b as usize]);
-    if n == 0 {
-        return at;
-    }
-    let t = own[x as usize];
-    if left_of(six[joining_of(a, x)], s, t) == 0 {
-        return put_started(c, six, n, k, s, t, true, a, x, b, d, area, at);
-    }
-    put_started(
-        c,
-        six,
-        n,
-        k,
-        s,
-        own[d as usize],
-        false,
-        a,
-        d,
-        b,
-        x,
-        area,
-        at,
-    )
 }
 
 // The third position of the first face with edge k.
@@ -200,91 +134,80 @@ fn third_of(k: usize) -> u32
     }
 }
 
-// What stands on edge k.
-fn put_edge(
-    c: Cell,
-    six: [u16; 6],
-    own: [u32; 4],
-    quads: bool,
-    k: usize,
-    area: &mut [u32],
-    at: usize,
-) -> usize
-    requires laid { Laid c six own quads × (k < 6) }
-    requires k_in_bounds { at + length (all_words (laid_on c quads k)) ≤ length area.old }
-    ensures { Stored area.old at (all_words (laid_on c quads k)) area.new result }
-{
-    let a = low_end(k) as u32;
-    let b = high_end(k) as u32;
-    let x = third_of(k);
-    let d = 6 - a - b - x;
-    let i = put_ring(c, six, own[a as usize], k, true, a, b, x, d, area, at);
-    let j = put_middle(c, six, own, quads, k, a, b, x, d, area, i);
-    put_ring(c, six, own[b as usize], k, false, b, a, x, d, area, j)
-}
+impl LevelCell {
+    // What stands on edge k.
+    fn put_edge(&self, quads: bool, k: usize, area: &mut [u32], at: usize) -> usize
+        requires plain { quads ≡ true → smaller (count_of self.now.cell) ≡ 0 }
+        requires k_lt { k < 6 }
+        requires k_in_bounds { at + length (all_words (laid_on self.now.cell quads k)) ≤ length area.old }
+        ensures { Stored area.old at (all_words (laid_on self.now.cell quads k)) area.new result }
+    {
+        let a = low_end(k) as u32;
+        let b = high_end(k) as u32;
+        let c = third_of(k);
+        let d = 6 - a - b - c;
+        let low = Nodes { a, b, c, d };
+        let i = self.put_ring(k, true, low, area, at);
+        let j = self.put_middle(quads, k, low, area, i);
+        let high = Nodes { a: b, b: a, c, d };
+        self.put_ring(k, false, high, area, j)
+    }
 
-// How many crossings are laid before edge k, and before each edge.
-fn laid_before(c: Cell, six: [u16; 6], k: usize) -> usize
-    requires { Listed c six × (k < 6) }
-    ensures { result ≡ base (edges_of c) k }
-{
-    let mut n: usize = 0;
-    for j in 0..6 {
-        if is_before(c, k, j) {
-            n += six[j] as usize;
+    // How many crossings are laid before edge k, and before each edge.
+    fn laid_before(&self, k: usize) -> usize
+        requires { k < 6 }
+        ensures { result ≡ base (edges_of self.now.cell) k }
+    {
+        let mut n: usize = 0;
+        for j in 0..6 {
+            if is_before(self.cell, k, j) {
+                n += self.six[j] as usize;
+            }
         }
+        n
     }
-    n
-}
 
-fn firsts_of(c: Cell, six: [u16; 6]) -> [usize; 6]
-    requires { Listed c six }
-    ensures { Firsts c result }
-{
-    let mut f = [0usize; 6];
-    for k in 0..6 {
-        f[k] = laid_before(c, six, k);
-    }
-    f
-}
-
-// The edge whose first crossing is p.
-fn edge_at(c: Cell, six: [u16; 6], firsts: [usize; 6], p: usize) -> usize
-    requires { Listed c six × Firsts c firsts × AtStart c p }
-    ensures { (result ≡ edge (edges_of c) p) × (result < 6) }
-{
-    for k in 0..5 {
-        if six[k] != 0 && firsts[k] == p {
-            return k;
+    fn firsts_of(&self) -> [usize; 6]
+        ensures { Firsts self.now.cell result }
+    {
+        let mut f = [0usize; 6];
+        for k in 0..6 {
+            f[k] = self.laid_before(k);
         }
+        f
     }
-    5
-}
 
-// Writes the words of the triangles that are asked for, all or those of the corners: they have room from index `at` on. Answers the next index.
-fn put_laid(
-    c: Cell,
-    six: [u16; 6],
-    own: [u32; 4],
-    quads: bool,
-    area: &mut [u32],
-    at: usize,
-) -> usize
-    requires laid { Laid c six own quads }
-    requires quads_in_bounds { at + length (all_words (triangles_with c (length_asked quads))) ≤ length area.old }
-    ensures { Stored area.old at (all_words (triangles_with c (length_asked quads))) area.new result }
-{
-    let n = booking::crossings_in(six);
-    let firsts = firsts_of(c, six);
-    let mut i = at;
-    let mut p: usize = 0;
-    // Stays: a while, since the next place comes from the counts.
-    while p < n {
-        let k = edge_at(c, six, firsts, p);
-        i = put_edge(c, six, own, quads, k, area, i);
-        p += six[k] as usize;
+    // The edge whose first crossing is p.
+    fn edge_at(&self, firsts: [usize; 6], p: usize) -> usize
+        requires { Firsts self.now.cell firsts × AtStart self.now.cell p }
+        ensures { (result ≡ edge (edges_of self.now.cell) p) × (result < 6) }
+    {
+        for k in 0..5 {
+            if self.six[k] != 0 && firsts[k] == p {
+                return k;
+            }
+        }
+        5
     }
-    i
+
+    // Writes the words of the triangles that are asked for, all or those of the corners: they have room from index `at` on. Answers the next index.
+    fn put_laid(&self, quads: bool, area: &mut [u32], at: usize) -> usize
+        requires plain { quads ≡ true → smaller (count_of self.now.cell) ≡ 0 }
+        requires quads_in_bounds { at + length (all_words (triangles_with self.now.cell (length_asked quads))) ≤ length area.old }
+        ensures { Stored area.old at (all_words (triangles_with self.now.cell (length_asked quads))) area.new result }
+    {
+        let n = booking::crossings_in(self.six);
+        let firsts = self.firsts_of();
+        let mut i = at;
+        let mut p: usize = 0;
+        // Stays: a while, since the next place comes from the counts.
+        while p < n {
+            let k = self.edge_at(firsts, p);
+            i = self.put_edge(quads, k, area, i);
+            p += self.six[k] as usize;
+        }
+        i
+    }
 }
 
 // The corner triangles of a cell with these counts that is laid: one of which the corner triangles alone are asked for, and one of which all are or those of
@@ -335,7 +258,8 @@ fn put_asked(c: Cell, only: usize, area: &mut [u32], at: usize) -> usize
     let six = cell::taken_of(c);
     if let Some(own) = asked_own(six, only) {
         if is_near(c) && fits(area.len(), at, booking::crossings_in(six)) {
-            return put_laid(c, six, own, only == 0, area, at);
+            let level = LevelCell { cell: c, six, own };
+            return level.put_laid(only == 0, area, at);
         }
     }
     cell::write_loops(c, only, area, at)

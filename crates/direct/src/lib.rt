@@ -12,15 +12,18 @@ ghost use Rattle.cell.specs.Nodes.{joining};
 ghost use Rattle.cell.specs.Level.{by_edge, is_level_cell};
 ghost use Rattle.cell.specs.Triangles.{cell_triangles};
 ghost use Rattle.cell.specs.Words.{word_count, all_words};
-ghost use Rattle.booking.specs.Booking.{median};
-ghost use Rattle.direct.specs.claims.Direct.{number_at, side, whole, half0, half1, three, four, outwards, inwards, acrosses, rounds, quads_on_first, on_first, on_second};
-ghost use Rattle.direct.specs.work.Rows.{in_row, Has, Long, Listed, Crosses, RowOf, Round, Parting, AreOwn, Ready, PlainNumbers, is_rising};
+ghost use Rattle.booking.specs.Booking.{median, left_between, smaller};
+ghost use Rattle.direct.specs.claims.Direct.{number_at, side, whole, half0, half1, quads_on_first, on_first, on_second};
+ghost use Rattle.direct.specs.work.Rows.{in_row, Has, Long, Crosses, RowOf, AreOwn, PlainNumbers, is_rising};
+ghost use Rattle.direct.specs.work.Loops.{threes_in, fours_in, round_loops, across_loops, rounds_loops};
 
 use cell::{Cell, Corner, Side, Triangle, WORD_COUNT, sum_of};
+use level::{Fours, LevelCell, Nodes, Threes};
 use words::put;
 
 mod drawing;
 mod laid;
+mod level;
 mod placing;
 mod words;
 
@@ -63,29 +66,29 @@ pub(crate) fn joining_of(a: u32, b: u32) -> usize
     }
 }
 
-// The number of the k-th crossing from a on the edge ab.
-fn number_at(c: Cell, six: [u16; 6], a: u32, b: u32, k: u32) -> u32
-    requires listed { Listed c six }
-    requires crosses { Crosses c a b k }
-    ensures { result ≡ number_at c a b k }
-{
-    let e = joining_of(a, b);
-    if a < b {
-        return c.starts[e] + k;
+impl LevelCell {
+    // The number of the k-th crossing from a on the edge ab.
+    fn number_at(&self, a: u32, b: u32, k: u32) -> u32
+        requires { Crosses self.now.cell a b k }
+        ensures { result ≡ number_at self.now.cell a b k }
+    {
+        let e = joining_of(a, b);
+        if a < b {
+            return self.cell.starts[e] + k;
+        }
+        self.cell.starts[e] + (self.six[e] as u32 - 1 - k)
     }
-    c.starts[e] + (six[e] as u32 - 1 - k)
-}
 
-// The row of the crossings from the k-th on, which is the next ones or those before.
-pub(crate) fn row_of(c: Cell, six: [u16; 6], a: u32, b: u32, k: u32, up: bool) -> Row
-    requires listed { Listed c six }
-    requires crosses { Crosses c a b k }
-    ensures { RowOf c a b k up result }
-{
-    let first = number_at(c, six, a, b, k);
-    Row {
-        first,
-        falls: if a < b { !up } else { up },
+    // The row of the crossings from the k-th on, which is the next ones or those before.
+    fn row_of(&self, a: u32, b: u32, k: u32, up: bool) -> Row
+        requires { Crosses self.now.cell a b k }
+        ensures { RowOf self.now.cell a b k up result }
+    {
+        let first = self.number_at(a, b, k);
+        Row {
+            first,
+            falls: if a < b { !up } else { up },
+        }
     }
 }
 
@@ -168,90 +171,45 @@ fn half1_of(c: Cell, g0: u32, g2: u32, g3: u32, s2: usize, s3: usize) -> Triangl
     }
 }
 
-// Writes the words of the two.
-fn put_four(
-    c: Cell,
-    g0: u32,
-    g1: u32,
-    g2: u32,
-    g3: u32,
-    s0: usize,
-    s1: usize,
-    s2: usize,
-    s3: usize,
-    area: &mut [u32],
-    at: usize,
-)
-    requires s0_bound { (s0 < 4) × (s1 < 4) × (s2 < 4) × (s3 < 4) }
-    requires word_count_in_bounds { at + word_count * 2 ≤ length area.old }
-    ensures { area.new ≡ sets area.old at (all_words (four c g0 g1 g2 g3 s0 s1 s2 s3)) }
-{
-    let t = half0_of(c, g0, g1, g2, s0, s1);
-    put(area, at, t);
-    let u = half1_of(c, g0, g2, g3, s2, s3);
-    put(area, at + WORD_COUNT, u);
-}
-
-// Writes the triangles of n loops of three, whose points go along three rows: they have room from index `at` on. Answers the next index.
-fn put_threes(
-    c: Cell,
-    n: u32,
-    x: Row,
-    y: Row,
-    z: Row,
-    s0: usize,
-    s1: usize,
-    s2: usize,
-    area: &mut [u32],
-    at: usize,
-) -> usize
-    requires long { Long x n × Long y n × Long z n }
-    requires s0_bound { (s0 < 4) × (s1 < 4) × (s2 < 4) }
-    requires n_in_bounds { at + word_count * n ≤ length area.old }
-    ensures { Stored area.old at (all_words (over (λ i. three c (in_row x i) (in_row y i) (in_row z i) s0 s1 s2) n 0)) area.new result }
-{
-    let mut j = at;
-    for i in 0..n {
-        let g0 = number_in(x, i);
-        let g1 = number_in(y, i);
-        let g2 = number_in(z, i);
-        let t = whole_of(c, g0, g1, g2, s0, s1, s2);
-        put(area, j, t);
-        j += WORD_COUNT;
+impl LevelCell {
+    // Writes the triangles of n loops of three: they have room from index `at` on. Answers the next index.
+    fn put_threes(&self, n: u32, loops: Threes, area: &mut [u32], at: usize) -> usize
+        requires long { Long loops.x n × Long loops.y n × Long loops.z n }
+        requires n_in_bounds { at + word_count * n ≤ length area.old }
+        ensures { Stored area.old at (all_words (over (threes_in self.now.cell loops) n 0)) area.new result }
+    {
+        let mut j = at;
+        for i in 0..n {
+            let g0 = number_in(loops.x, i);
+            let g1 = number_in(loops.y, i);
+            let g2 = number_in(loops.z, i);
+            let t = whole_of(self.cell, g0, g1, g2, loops.s0, loops.s1, loops.s2);
+            put(area, j, t);
+            j += WORD_COUNT;
+        }
+        j
     }
-    j
-}
 
-// The same of n loops of four.
-pub(crate) fn put_fours(
-    c: Cell,
-    n: u32,
-    x: Row,
-    y: Row,
-    z: Row,
-    u: Row,
-    s0: usize,
-    s1: usize,
-    s2: usize,
-    s3: usize,
-    area: &mut [u32],
-    at: usize,
-) -> usize
-    requires long { Long x n × Long y n × Long z n × Long u n }
-    requires s0_bound { (s0 < 4) × (s1 < 4) × (s2 < 4) × (s3 < 4) }
-    requires n_in_bounds { at + word_count * (2 * n) ≤ length area.old }
-    ensures { Stored area.old at (all_words (over (λ i. four c (in_row x i) (in_row y i) (in_row z i) (in_row u i) s0 s1 s2 s3) n 0)) area.new result }
-{
-    let mut j = at;
-    for i in 0..n {
-        let g0 = number_in(x, i);
-        let g1 = number_in(y, i);
-        let g2 = number_in(z, i);
-        let g3 = number_in(u, i);
-        put_four(c, g0, g1, g2, g3, s0, s1, s2, s3, area, j);
-        j += 2 * WORD_COUNT;
+    // The same of n loops of four.
+    fn put_fours(&self, n: u32, loops: Fours, area: &mut [u32], at: usize) -> usize
+        requires long { Long loops.x n × Long loops.y n × Long loops.z n × Long loops.u n }
+        requires n_in_bounds { at + word_count * (2 * n) ≤ length area.old }
+        ensures { Stored area.old at (all_words (over (fours_in self.now.cell loops) n 0)) area.new result }
+    {
+        let mut j = at;
+        for i in 0..n {
+            let g0 = number_in(loops.x, i);
+            let g1 = number_in(loops.y, i);
+            let g2 = number_in(loops.z, i);
+            let g3 = number_in(loops.u, i);
+            let t = half0_of(self.cell, g0, g1, g2, loops.s0, loops.s1);
+            put(area, j, t);
+            let u = half1_of(self.cell, g0, g2, g3, loops.s2, loops.s3);
+            put(area, j + WORD_COUNT, u);
+            j += 2 * WORD_COUNT;
+        }
+        j
     }
-    j
 }
 
 // The place from a of the first of n loops, outwards from a or inwards.
@@ -262,136 +220,82 @@ fn start_of(n: u32, up: bool) -> u32
     if up { 0 } else { n - 1 }
 }
 
-// Writes the triangles of the n loops round the node a that start on its edge to b and go on to x and d, outwards from a or inwards.
-fn put_some(
-    c: Cell,
-    six: [u16; 6],
-    n: u32,
-    up: bool,
-    a: u32,
-    b: u32,
-    x: u32,
-    d: u32,
-    area: &mut [u32],
-    at: usize,
-) -> usize
-    requires listed { Listed c six × Round c n a b x d × (0 < n) }
-    requires d_in_bounds { at + length (all_words (pick up (outwards c a b x d) (inwards c a b x d))) ≤ length area.old }
-    ensures { Stored area.old at (all_words (pick up (outwards c a b x d) (inwards c a b x d))) area.new result }
-{
-    let k = start_of(n, up);
-    let p = row_of(c, six, a, b, k, up);
-    let q = row_of(c, six, a, x, k, up);
-    let r = row_of(c, six, a, d, k, up);
-    put_threes(c, n, p, q, r, d as usize, b as usize, x as usize, area, at)
-}
-
-// The same, where there may be none.
-pub(crate) fn put_round(
-    c: Cell,
-    six: [u16; 6],
-    n: u32,
-    up: bool,
-    a: u32,
-    b: u32,
-    x: u32,
-    d: u32,
-    area: &mut [u32],
-    at: usize,
-) -> usize
-    requires listed { Listed c six × Round c n a b x d }
-    requires d_in_bounds { at + length (all_words (pick up (outwards c a b x d) (inwards c a b x d))) ≤ length area.old }
-    ensures { Stored area.old at (all_words (pick up (outwards c a b x d) (inwards c a b x d))) area.new result }
-{
-    if n == 0 {
-        return at;
+impl LevelCell {
+    // Writes the triangles of the loops round the node a that start on its edge to b and go on to c and d, outwards from a or inwards. Inlined, here and below,
+    // so that the compiler knows the positions of whole cells (SPEED.md).
+    #[inline(always)]
+    pub(crate) fn put_round(&self, up: bool, nodes: Nodes, area: &mut [u32], at: usize) -> usize
+        requires { at + length (all_words (round_loops self.now.cell up nodes)) ≤ length area.old }
+        ensures { Stored area.old at (all_words (round_loops self.now.cell up nodes)) area.new result }
+    {
+        let a = nodes.a;
+        let n = self.own[a as usize];
+        if n == 0 {
+            return at;
+        }
+        let k = start_of(n, up);
+        let loops = Threes {
+            x: self.row_of(a, nodes.b, k, up),
+            y: self.row_of(a, nodes.c, k, up),
+            z: self.row_of(a, nodes.d, k, up),
+            s0: nodes.d as usize,
+            s1: nodes.b as usize,
+            s2: nodes.c as usize,
+        };
+        self.put_threes(n, loops, area, at)
     }
-    put_some(c, six, n, up, a, b, x, d, area, at)
-}
 
-// The same outwards.
-fn put_outwards(
-    c: Cell,
-    six: [u16; 6],
-    n: u32,
-    a: u32,
-    b: u32,
-    x: u32,
-    d: u32,
-    area: &mut [u32],
-    at: usize,
-) -> usize
-    requires listed { Listed c six × Round c n a b x d }
-    requires d_in_bounds { at + length (all_words (outwards c a b x d)) ≤ length area.old }
-    ensures { Stored area.old at (all_words (outwards c a b x d)) area.new result }
-{
-    if n == 0 {
-        return at;
+    // Writes the triangles of the n loops that part the nodes a and b from c and d, and lead from ac to bc.
+    #[inline(always)]
+    pub(crate) fn put_across(&self, n: u32, nodes: Nodes, area: &mut [u32], at: usize) -> usize
+        requires parting { (left_between (count_of self.now.cell) nodes.a nodes.b ≡ 0) × (n ≡ left_between (count_of self.now.cell) nodes.a nodes.c) }
+        requires nodes_in_bounds { at + length (all_words (across_loops self.now.cell nodes)) ≤ length area.old }
+        ensures { Stored area.old at (all_words (across_loops self.now.cell nodes)) area.new result }
+    {
+        if n == 0 {
+            return at;
+        }
+        let Nodes { a, b, c, d } = nodes;
+        let s = self.own[a as usize];
+        let t = self.own[b as usize];
+        let loops = Fours {
+            x: self.row_of(a, c, s, true),
+            y: self.row_of(b, c, t, true),
+            z: self.row_of(b, d, t, true),
+            u: self.row_of(a, d, s, true),
+            s0: d as usize,
+            s1: a as usize,
+            s2: c as usize,
+            s3: b as usize,
+        };
+        self.put_fours(n, loops, area, at)
     }
-    let p = row_of(c, six, a, b, 0, true);
-    let q = row_of(c, six, a, x, 0, true);
-    let r = row_of(c, six, a, d, 0, true);
-    put_threes(c, n, p, q, r, d as usize, b as usize, x as usize, area, at)
-}
 
-// Writes the triangles of the n loops that part a and m, with so many corner triangles, from u and v, and lead from au to mu.
-fn put_across(
-    c: Cell,
-    six: [u16; 6],
-    n: u32,
-    s: u32,
-    t: u32,
-    a: u32,
-    m: u32,
-    u: u32,
-    v: u32,
-    area: &mut [u32],
-    at: usize,
-) -> usize
-    requires listed { Listed c six × Parting c n s t a m u v }
-    requires v_in_bounds { at + length (all_words (acrosses c a m u v)) ≤ length area.old }
-    ensures { Stored area.old at (all_words (acrosses c a m u v)) area.new result }
-{
-    if n == 0 {
-        return at;
+    // The same of those that lead from ac to ad.
+    #[inline(always)]
+    pub(crate) fn put_rounds(&self, n: u32, nodes: Nodes, area: &mut [u32], at: usize) -> usize
+        requires parting { (left_between (count_of self.now.cell) nodes.a nodes.b ≡ 0) × (n ≡ left_between (count_of self.now.cell) nodes.a nodes.c) }
+        requires nodes_in_bounds { at + length (all_words (rounds_loops self.now.cell nodes)) ≤ length area.old }
+        ensures { Stored area.old at (all_words (rounds_loops self.now.cell nodes)) area.new result }
+    {
+        if n == 0 {
+            return at;
+        }
+        let Nodes { a, b, c, d } = nodes;
+        let s = self.own[a as usize];
+        let t = self.own[b as usize];
+        let loops = Fours {
+            x: self.row_of(a, c, s, true),
+            y: self.row_of(a, d, s, true),
+            z: self.row_of(b, d, t, true),
+            u: self.row_of(b, c, t, true),
+            s0: b as usize,
+            s1: c as usize,
+            s2: a as usize,
+            s3: d as usize,
+        };
+        self.put_fours(n, loops, area, at)
     }
-    let p = row_of(c, six, a, u, s, true);
-    let q = row_of(c, six, m, u, t, true);
-    let r = row_of(c, six, m, v, t, true);
-    let w = row_of(c, six, a, v, s, true);
-    put_fours(
-        c, n, p, q, r, w, v as usize, a as usize, u as usize, m as usize, area, at,
-    )
-}
-
-// The same of those that lead from au to av.
-fn put_rounds(
-    c: Cell,
-    six: [u16; 6],
-    n: u32,
-    s: u32,
-    t: u32,
-    a: u32,
-    m: u32,
-    u: u32,
-    v: u32,
-    area: &mut [u32],
-    at: usize,
-) -> usize
-    requires listed { Listed c six × Parting c n s t a m u v }
-    requires v_in_bounds { at + length (all_words (rounds c a m u v)) ≤ length area.old }
-    ensures { Stored area.old at (all_words (rounds c a m u v)) area.new result }
-{
-    if n == 0 {
-        return at;
-    }
-    let p = row_of(c, six, a, u, s, true);
-    let q = row_of(c, six, a, v, s, true);
-    let r = row_of(c, six, m, v, t, true);
-    let w = row_of(c, six, m, u, t, true);
-    put_fours(
-        c, n, p, q, r, w, m as usize, u as usize, a as usize, v as usize, area, at,
-    )
 }
 
 // Half of what three counts have above the largest sum of a pair.
@@ -425,56 +329,102 @@ pub(crate) fn left_of(n: u16, a: u32, b: u32) -> u32
     (n as u32).saturating_sub(a).saturating_sub(b)
 }
 
-// The quads on 01: they part 0 from 1, with 2 on the side of 0 or with 3.
-fn put_quads(c: Cell, six: [u16; 6], own: [u32; 4], area: &mut [u32], at: usize) -> usize
-    requires ready { Ready c six own }
-    requires c_in_bounds { at + length (all_words (quads_on_first c)) ≤ length area.old }
-    ensures { Stored area.old at (all_words (quads_on_first c)) area.new result }
-{
-    let n = left_of(six[0], own[0], own[1]);
-    if n == 0 {
-        return at;
+impl LevelCell {
+    // The quads on 01: they part 0 from 1, with 2 on the side of 0 or with 3.
+    fn put_quads(&self, area: &mut [u32], at: usize) -> usize
+        requires plain { smaller (count_of self.now.cell) ≡ 0 }
+        requires self_in_bounds { at + length (all_words (quads_on_first self.now.cell)) ≤ length area.old }
+        ensures { Stored area.old at (all_words (quads_on_first self.now.cell)) area.new result }
+    {
+        let own = self.own;
+        let n = left_of(self.six[0], own[0], own[1]);
+        if n == 0 {
+            return at;
+        }
+        if left_of(self.six[1], own[0], own[2]) == 0 {
+            let beside = Nodes {
+                a: 0,
+                b: 2,
+                c: 1,
+                d: 3,
+            };
+            return self.put_across(n, beside, area, at);
+        }
+        let opposite = Nodes {
+            a: 0,
+            b: 3,
+            c: 1,
+            d: 2,
+        };
+        self.put_rounds(n, opposite, area, at)
     }
-    if left_of(six[1], own[0], own[2]) == 0 {
-        return put_across(c, six, n, own[0], own[2], 0, 2, 1, 3, area, at);
+
+    // The loops on 01.
+    fn put_first(&self, area: &mut [u32], at: usize) -> usize
+        requires plain { smaller (count_of self.now.cell) ≡ 0 }
+        requires self_in_bounds { at + length (all_words (on_first self.now.cell)) ≤ length area.old }
+        ensures { Stored area.old at (all_words (on_first self.now.cell)) area.new result }
+    {
+        let zero = Nodes {
+            a: 0,
+            b: 1,
+            c: 2,
+            d: 3,
+        };
+        let i = self.put_round(true, zero, area, at);
+        let j = self.put_quads(area, i);
+        let one = Nodes {
+            a: 1,
+            b: 0,
+            c: 2,
+            d: 3,
+        };
+        self.put_round(false, one, area, j)
     }
-    put_rounds(c, six, n, own[0], own[3], 0, 3, 1, 2, area, at)
-}
 
-// The loops on 01.
-fn put_first(c: Cell, six: [u16; 6], own: [u32; 4], area: &mut [u32], at: usize) -> usize
-    requires ready { Ready c six own }
-    requires c_in_bounds { at + length (all_words (on_first c)) ≤ length area.old }
-    ensures { Stored area.old at (all_words (on_first c)) area.new result }
-{
-    let i = put_outwards(c, six, own[0], 0, 1, 2, 3, area, at);
-    let j = put_quads(c, six, own, area, i);
-    put_round(c, six, own[1], false, 1, 0, 2, 3, area, j)
-}
-
-// The loops on 02: quads only where 0 is left with 1.
-fn put_second(c: Cell, six: [u16; 6], own: [u32; 4], area: &mut [u32], at: usize) -> usize
-    requires ready { Ready c six own }
-    requires c_in_bounds { at + length (all_words (on_second c)) ≤ length area.old }
-    ensures { Stored area.old at (all_words (on_second c)) area.new result }
-{
-    if left_of(six[0], own[0], own[1]) == 0 {
-        let n = left_of(six[1], own[0], own[2]);
-        let i = put_across(c, six, n, own[0], own[1], 0, 1, 2, 3, area, at);
-        return put_round(c, six, own[2], false, 2, 0, 1, 3, area, i);
+    // The loops on 02: quads only where 0 is left with 1.
+    fn put_second(&self, area: &mut [u32], at: usize) -> usize
+        requires plain { smaller (count_of self.now.cell) ≡ 0 }
+        requires self_in_bounds { at + length (all_words (on_second self.now.cell)) ≤ length area.old }
+        ensures { Stored area.old at (all_words (on_second self.now.cell)) area.new result }
+    {
+        let own = self.own;
+        let two = Nodes {
+            a: 2,
+            b: 0,
+            c: 1,
+            d: 3,
+        };
+        if left_of(self.six[0], own[0], own[1]) == 0 {
+            let n = left_of(self.six[1], own[0], own[2]);
+            let beside = Nodes {
+                a: 0,
+                b: 1,
+                c: 2,
+                d: 3,
+            };
+            let i = self.put_across(n, beside, area, at);
+            return self.put_round(false, two, area, i);
+        }
+        self.put_round(false, two, area, at)
     }
-    put_round(c, six, own[2], false, 2, 0, 1, 3, area, at)
-}
 
-// Writes the words of the triangles of a level cell with d2 = 0 whose first numbers rise: they have room from index `at` on. Answers the next index.
-pub(crate) fn put_all(c: Cell, six: [u16; 6], own: [u32; 4], area: &mut [u32], at: usize) -> usize
-    requires ready { Ready c six own × Rising (edges_of c) }
-    requires c_in_bounds { at + length (all_words (cell_triangles c)) ≤ length area.old }
-    ensures { Stored area.old at (all_words (cell_triangles c)) area.new result }
-{
-    let i = put_first(c, six, own, area, at);
-    let j = put_second(c, six, own, area, i);
-    put_round(c, six, own[3], false, 3, 0, 1, 2, area, j)
+    // Writes the words of the triangles of a level cell with d2 = 0 whose first numbers rise: they have room from index `at` on. Answers the next index.
+    pub(crate) fn put_all(&self, area: &mut [u32], at: usize) -> usize
+        requires plain { (smaller (count_of self.now.cell) ≡ 0) × Rising (edges_of self.now.cell) }
+        requires self_in_bounds { at + length (all_words (cell_triangles self.now.cell)) ≤ length area.old }
+        ensures { Stored area.old at (all_words (cell_triangles self.now.cell)) area.new result }
+    {
+        let i = self.put_first(area, at);
+        let j = self.put_second(area, i);
+        let three = Nodes {
+            a: 3,
+            b: 0,
+            c: 1,
+            d: 2,
+        };
+        self.put_round(false, three, area, j)
+    }
 }
 
 // Whether the first numbers rise.

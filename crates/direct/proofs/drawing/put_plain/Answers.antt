@@ -28,6 +28,11 @@ shape_of-area-then-not-is_rising c = c.loop-k.invariant.1.long
 pub returns-then-not-is_rising : goal.returns-then-not-is_rising
 returns-then-not-is_rising c = let I = c.loop-k.invariant in put_came _ _ _ _ (omega arith) I.0 I.1
 
+pub invariant_of-level : goal.invariant_of-level
+invariant_of-level c = let T = c.args.tables in
+    let R = table_ready T.cells.now T.counts.now T.names.now T.sides.now T.starts.now c.loop-k.k c.counts_at-six.ensures c.in-Some.ensures c.cell_at-v.ensures in
+    record { listed = R.listed; level = R.plain.level; own_are = R.own_are }
+
 pub put_fitting-i-requires : goal.put_fitting-i-requires
 put_fitting-i-requires c = let T = c.args.tables in
     let L = c.loop-k in
@@ -35,7 +40,7 @@ put_fitting-i-requires c = let T = c.args.tables in
     let N = c.in-Some.ensures in
     let v = c.cell_at-v.ensures in
     let r = sym c.is_rising.ensures ∙ c.if-not-is_rising.false in
-    (table_ready T.cells.now T.counts.now T.names.now T.sides.now T.starts.now L.k e N v, rising_is c.cell_at-v.result r, table_booked T.cells.now T.counts.now T.names.now T.sides.now T.starts.now L.k e N v)
+    ((table_ready T.cells.now T.counts.now T.names.now T.sides.now T.starts.now L.k e N v).plain.none, rising_is c.cell_at-v.result r, table_booked T.cells.now T.counts.now T.names.now T.sides.now T.starts.now L.k e N v)
 
 pub loop-k-preserved : goal.loop-k-preserved
 loop-k-preserved c = let I = c.loop-k.invariant in
