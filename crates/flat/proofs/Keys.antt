@@ -30,6 +30,7 @@ use Rattle.grid.specs.work.Shared.{earlier_at, key_room, join}
 use Rattle.counting.specs.work.Tables.{Table, same_key}
 use Rattle.grid.specs.work.Work.{third_at}
 use Rattle.counting.proofs.Tables.{filled_table}
+use Rattle.grid.proofs.Blocks.{block_found, block_none, found_same}
 use Rattle.grid.proofs.Packed.{join_eqb}
 use Rattle.flat.specs.FlatGrid.{most_flat_triangles, node, same_edge, shares, triangles_in}
 use Rattle.flat.specs.Accepted.{SameEdge}
@@ -240,11 +241,6 @@ twice_miss prev j {p} q h = rw (← q, eq-eqb (get_or prev (p - 1) 0) 0 h) (go (
     go true = refl
     go false = refl
 
--- searches with the same first number find the same
-pub found_same : (t u : ℕ → Bool) (n : ℕ) → first t n ≡ first u n → found t n ≡ found u n
-unfolding found
-found_same t u n e = ap (λ k. pick (ltb k n) (Some k) None) e
-
 -- the first of these places with an entry
 pub entry_found : (prev : List ℕ) (n : ℕ) → n ≤ length prev → position (λ p. not (eqb p 0)) (take n prev) ≡ found (λ j. not (eqb (get_or prev j 0) 0)) n
 entry_found prev n h =
@@ -253,9 +249,6 @@ entry_found prev n h =
     ∙ found_same _ _ n (first_ext _ _ n (λ j k. ap (λ p. not (eqb p 0)) (get_or-take n prev j 0 k)))
 
 -- the block of the first place found
-pub block_found : (t u : ℕ → Bool) (n : ℕ) (o : Option ℕ) → o ≡ found t (3 * n) → first t (3 * n) / 3 ≡ first u n → option_map (λ j. j / 3) o ≡ found u n
-block_found t u n (Some j) e q =
-    let (f, h) = found_first t (3 * n) j e in
-    let p : first u n ≡ j / 3 = sym q ∙ ap (λ x. x / 3) (sym f) in
-    ap Some (sym p) ∙ first_found u n (omega arith)
-block_found t u n None e q = none_found u n (omega (arith, found_none t (3 * n) e))
+pub third_found : (t u : ℕ → Bool) (n : ℕ) → first t (3 * n) / 3 ≡ first u n → (o : Option ℕ) → o ≡ found t (3 * n) → option_map (λ j. j / 3) o ≡ found u n
+third_found t u n q (Some j) e = block_found t u 3 n (omega arith) q j e
+third_found t u n q None e = block_none t u 3 n (omega arith) q e

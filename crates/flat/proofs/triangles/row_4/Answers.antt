@@ -4,7 +4,8 @@ use native.Mathlib.Omega.{arith}
 use lib.ListN.{length}
 use Rattle.flat.specs.FlatGrid.{most_flat_triangles}
 use Rattle.counting.proofs.Tables.{filled_table}
-use Rattle.flat.proofs.Keys.{earlier_table, entry_found, found_same, repeats_first}
+use Rattle.grid.proofs.Blocks.{found_same}
+use Rattle.flat.proofs.Keys.{earlier_table, entry_found, repeats_first}
 use Rattle.flat.proofs.triangles.row_4.Goals as goal
 
 pub returns : goal.returns
