@@ -6,9 +6,7 @@ ghost use Rattle.std.specs.Float.{nan};
 ghost use Rattle.counting.specs.Stored.{stored_in};
 ghost use Rattle.place.specs.Place.{within, between, added, divided, middle, coordinates, place_at, numbers, part_of};
 
-use counting::{long32, wide32};
-
-#[derive(Clone, Copy)]
+#[derive(Clone, Copy, Debug, PartialEq)]
 pub struct Place {
     pub x: f64,
     pub y: f64,
@@ -16,14 +14,11 @@ pub struct Place {
 }
 
 // Whether a number is within a million, the ends allowed.
+#[tactic(auto, unfolding(crate::specs::Place::within))]
 pub fn is_within(x: f64) -> bool
     ensures { result ≡ within x }
 {
-    if -1000000.0 <= x {
-        x <= 1000000.0
-    } else {
-        false
-    }
+    -1000000.0 <= x && x <= 1000000.0
 }
 
 // The point with fraction s from u to v.
@@ -61,7 +56,7 @@ pub fn over(p: Place, n: f64) -> Place
 pub fn part_of(i: u32, m: u32) -> f64
     ensures { result ≡ part_of i m }
 {
-    std::num::nearest_u64_to_f64(long32(i) + 1) / std::num::nearest_u64_to_f64(long32(m) + 1)
+    std::num::nearest_u64_to_f64(i as u64 + 1) / std::num::nearest_u64_to_f64(m as u64 + 1)
 }
 
 // Number t of point k of a list: a NaN past the list's end.
@@ -69,15 +64,10 @@ fn number(list: &[f64], k: usize, t: usize) -> f64
     requires { t < coordinates }
     ensures { result ≡ slice_index_or list.now (coordinates * k + t) nan }
 {
-    let n = list.len();
-    if n / 3 < k {
-        return 0.0 / 0.0;
+    if list.len() / 3 < k {
+        return f64::NAN;
     }
-    let i = 3 * k + t;
-    if n <= i {
-        return 0.0 / 0.0;
-    }
-    list[i]
+    list.get(3 * k + t).copied().unwrap_or(f64::NAN)
 }
 
 // Point k of a list. What the list does not reach to is read as NaN.
@@ -119,12 +109,9 @@ pub fn middle_of(list: &[f64], points: &[u32]) -> Place
     if n == 0 {
         return over(load(list, 0), 0.0);
     }
-    let mut p = load(list, wide32(points[0]));
-    let mut i = 1;
-    while i < n {
-        let q = load(list, wide32(points[i]));
-        p = plus(p, q);
-        i += 1;
+    let mut p = load(list, points[0] as usize);
+    for i in 1..n {
+        p = plus(p, load(list, points[i] as usize));
     }
     over(p, std::num::nearest_u64_to_f64(n as u64))
 }

@@ -1,9 +1,6 @@
-use Rattle.std.proofs.Common.{◌≡◌, ◌-◌, ◌<◌, ◌≤◌, length, get_or}
+use Rattle.std.proofs.Common.{◌≡◌, ◌-◌, length, get_or}
 use Rattle.place.specs.Place.{place_at, sum_to}
 use Rattle.place.proofs.middle_of.Given as goal
 
 abbrev pub invariant-loop-i : goal.invariant-loop-i
-invariant-loop-i l = (0 < l.i) × (l.i ≤ l.n) × (l.n ≡ length l.points) × (l.p ≡ sum_to (λ k. place_at l.list (get_or l.points k 0)) (l.i - 1))
-
-abbrev pub decreases-loop-i : goal.decreases-loop-i
-decreases-loop-i l = l.n - l.i
+invariant-loop-i l = (l.n ≡ length l.points) × (l.p ≡ sum_to (λ k. place_at l.list (get_or l.points k 0)) (l.i - 1))

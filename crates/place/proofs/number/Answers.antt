@@ -1,12 +1,13 @@
-use Rattle.std.proofs.Common.{sym, arith}
+use Rattle.std.proofs.Common.{sym, ap, ◌∙◌, arith}
+use Rattle.std.specs.Option.{unwrap_or}
 use lib.ListN.{get_or-eq_default}
-use lib.Ieee.{nan, div, of_bits}
+use lib.Ieee.{nan, of_bits}
 use Rattle.place.proofs.number.Goals as goal
 
-pub returns-then-n-k : goal.returns-then-n-k
-unfolding div of_bits
-returns-then-n-k c = let a = c.args in sym (get_or-eq_default a.list.now nan (omega (arith, c.if-n-k.true)))
+pub returns-then-list-k : goal.returns-then-list-k
+unfolding of_bits
+returns-then-list-k c = sym (get_or-eq_default c.args.list.now nan (omega (arith, c.if-list-k.true)))
 
-pub returns-then-n-i : goal.returns-then-n-i
-unfolding div of_bits
-returns-then-n-i c = let a = c.args in sym (get_or-eq_default a.list.now nan (omega (arith, c.if-n-i.true)))
+pub returns : goal.returns
+unfolding of_bits
+returns c = c.unwrap_or.ensures ∙ ap (λ o. unwrap_or o nan) c.copied.ensures ∙ c.get.ensures.lookup.4 (omega arith) nan
