@@ -1,8 +1,9 @@
 -- What holds of the calls and of the cells of an accepted grid.
-use Rattle.std.specs.Prelude.{◌≤◌, ℕ, ◌+◌, ◌*◌, ◌<◌, ◌≡◌, ◌⊎◌, true, List, [], ◌∷◌, eqb, length, get_or}
+use Rattle.std.specs.Prelude.{◌≤◌, ℕ, ◌+◌, ◌*◌, ◌<◌, ◌≡◌, ◌⊎◌, true, Option, Result, List, [], ◌∷◌, eqb, length, get_or}
 use Rattle.manifold.specs.Triangle.{Side, seg, inner, Corner, cross, middle}
 use Rattle.split.specs.Limits.{first_inner_face, first_inner_crossing}
 use Rattle.answer.specs.Answer.{result_of}
+use Rattle.answer.specs.declared.Refusal.{Refusal}
 use Rattle.counting.specs.Pick.{pick}
 use Rattle.counting.specs.Lists.{total, tally}
 use Rattle.counting.specs.Search.{count}
@@ -12,6 +13,7 @@ use Rattle.manifold.specs.claims.Complex.{Joins}
 use Rattle.cell.specs.Of.{count_of, edges_of}
 use Rattle.cell.specs.claims.Claims.{OrderLaws}
 use Rattle.cell.specs.declared.Cell.{Cell}
+use Rattle.cell.specs.declared.Loop.{Loop}
 use Rattle.cell.specs.declared.Triangle.{Triangle}
 use Rattle.cell.specs.Level.{is_level_cell}
 use Rattle.cell.specs.Common.{is_common}
@@ -25,8 +27,7 @@ use Rattle.booking.specs.Booking.{is_split, booked_split}
 use Rattle.split.specs.Parts.{no_part, part_cell}
 use Rattle.split.specs.claims.Claims.{most_splits, SplitSides, CurveSides, part_local}
 use Rattle.split.specs.claims.Owned.{of_cell}
-use Rattle.mesh.specs.declared.Meshed.{Meshed}
-use Rattle.mesh.specs.declared.Looped.{Looped}
+use Rattle.mesh.specs.declared.sizes.Mesh.{Mesh}
 use Rattle.mesh.specs.Numbers.{mesh_numbers, loops_numbers}
 use Rattle.mesh.specs.Mesh.{grid_cell, mesh_triangles, mesh_splits}
 use Rattle.mesh.specs.Names.{cell_of, mesh_corner, mesh_side, has_mesh_side}
@@ -39,13 +40,13 @@ abbrev pub IsInner : Side → Type 0
 IsInner (seg f g) = first_inner_face ≤ f
 IsInner (inner w p k) = Unit {0}
 
--- the numbers tell the answer: no two values of an enum are read as the same answer of its call
+-- the numbers tell the answer: no two answers of a call are read as the same numbers
 abbrev pub MeshTold : Type 0
-MeshTold = (G : Grid) (room : ℕ) (r s : Meshed)
+MeshTold = (G : Grid) (room : ℕ) (r s : Result Mesh Refusal)
     → mesh_numbers r ≡ mesh_answer G room → mesh_numbers s ≡ mesh_answer G room → r ≡ s
 
 abbrev pub LoopsTold : Type 0
-LoopsTold = (G : Grid) (c k : ℕ) (r s : Looped)
+LoopsTold = (G : Grid) (c k : ℕ) (r s : Result (Option Loop) Refusal)
     → loops_numbers r ≡ loops_answer G c k → loops_numbers s ≡ loops_answer G c k → r ≡ s
 
 -- Alternation can be met, so that it says something that no two segments alternate (01, demand 3): on a face with the counts 2, 0, 2, segments that joined
