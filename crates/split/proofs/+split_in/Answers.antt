@@ -15,9 +15,6 @@ put-requires t c = record { starts_near = sound_placed c.requires.splits_left.so
 pub returns-then-left-eq0 : goal.returns-then-left-eq0
 returns-then-left-eq0 t c = stored_as c.put.ensures (sym (none_left c.requires.splits_left c.if-left-eq0.true)) refl
 
-pub of-s-requires : goal.of-s-requires
-of-s-requires t c = c.requires.splits_left.sound
-
 pub sub_cell-inner-requires : goal.sub_cell-inner-requires
 sub_cell-inner-requires t c = let h : 0 < c.args.left = omega (arith, c.if-left-eq0.false) in
     let W = working_own c.of-s.ensures.cell_is (left_working c.requires.splits_left h c.of-s.ensures.numbers) in
@@ -28,15 +25,6 @@ nested-nested-requires t c = let h : 0 < c.args.left = omega (arith, c.if-left-e
     let W = left_working c.requires.splits_left h c.of-s.ensures.numbers in
     let N = W.is.numbers in
     record { sums_fit = omega (arith, sum_few W.is); by_bound = (omega (arith, W.n_few), omega (arith, W.b_few, N.larger_is, N.smaller_is), W.f_few) }
-
-pub overflow_mul-last : goal.overflow_mul-last
-overflow_mul-last t c = omega (arith, c.requires.splits_left.n_few, c.if-left-eq0.false)
-
-pub overflow_add-last : goal.overflow_add-last
-overflow_add-last t c = omega (arith, c.requires.splits_left.n_few, c.if-left-eq0.false)
-
-pub overflow_sub-last : goal.overflow_sub-last
-overflow_sub-last t c = omega (arith, c.requires.splits_left.n_few, c.if-left-eq0.false)
 
 pub put_start-i-requires : goal.put_start-i-requires
 put_start-i-requires t c = let h : 0 < c.args.left = omega (arith, c.if-left-eq0.false) in

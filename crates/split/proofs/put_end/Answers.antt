@@ -3,18 +3,10 @@ use native.Mathlib.Omega.{arith}
 use Rattle.split.proofs.Putting.{end_sound, end_first, last_sound, end_second, end_stored}
 use Rattle.split.proofs.put_end.Goals as goal
 
-pub sub_cell-requires : goal.sub_cell-requires
-sub_cell-requires c = let W = c.requires.working in
-    record { spiraling = W.is; m_bound = (omega arith, W.cell_lt, omega (arith, W.n_few), omega (arith, W.b_few), W.f_few) }
-
 pub put-i-requires : goal.put-i-requires
 put-i-requires c = let p = c.requires in
     let e = c.sub_cell.ensures in
     record { starts_near = end_sound p.working e (omega arith); only_in_bounds = end_first p.working e (omega arith) c.args.at p.s_in_bounds }
-
-pub sub_cell-requires-2 : goal.sub_cell-requires-2
-sub_cell-requires-2 c = let W = c.requires.working in
-    record { spiraling = W.is; m_bound = (omega arith, W.cell_lt, omega (arith, W.n_few), omega (arith, W.b_few), W.f_few) }
 
 pub put-requires : goal.put-requires
 put-requires c = let p = c.requires in

@@ -1,14 +1,6 @@
 use mathlib.Core.Path.{refl}
-use native.Mathlib.Omega.{arith}
-use Rattle.split.proofs.Putting.{sound_placed, start_first, start_sound, start_second, start_stored}
+use Rattle.split.proofs.Putting.{start_sound, start_second, start_stored}
 use Rattle.split.proofs.put_start.Goals as goal
-
-pub put-i-requires : goal.put-i-requires
-put-i-requires c = record { starts_near = sound_placed c.requires.working.is.sound; only_in_bounds = start_first c.requires.working c.args.at c.requires.s_in_bounds }
-
-pub sub_cell-requires : goal.sub_cell-requires
-sub_cell-requires c = let W = c.requires.working in
-    record { spiraling = W.is; m_bound = (omega arith, W.cell_lt, omega (arith, W.n_few), omega (arith, W.b_few), W.f_few) }
 
 pub put-requires : goal.put-requires
 put-requires c = let W = c.requires.working in

@@ -1,19 +1,12 @@
 use mathlib.Core.Path.{◌∙◌}
 use native.Mathlib.Omega.{arith}
-use Rattle.counting.proofs.Stored.{stored_long}
 use Rattle.cell.specs.Of.{count_of}
 use Rattle.split.proofs.Coded.{sum_few}
 use Rattle.split.proofs.Arms.{arms_none, arms_room, arms_more, arms_all, spokes_told}
 use Rattle.split.proofs.Spiral.put_split.Goals as goal
 
-pub new_place-a-requires : goal.new_place-a-requires
-new_place-a-requires c = c.requires.spiraling
-
 pub loop-m-init : goal.loop-m-init
 loop-m-init c = let A = c.args in arms_none (count_of A.self.cell) A.at A.area.now A.i
-
-pub labelled_at-v-requires : goal.labelled_at-v-requires
-labelled_at-v-requires c = record { spiraling = c.requires.spiraling; m_bound = omega arith }
 
 pub spoke_count-requires : goal.spoke_count-requires
 spoke_count-requires c = (omega arith, omega (arith, sum_few c.requires.spiraling))
@@ -28,9 +21,6 @@ loop-m-preserved c = let A = c.args in
     let L = c.loop-m in
     arms_more (count_of A.self.cell) A.at A.i L.k L.m L.invariant c.new_place-a.ensures c.labelled_at-v.ensures
     (c.spoke_count.ensures ∙ spokes_told c.requires.spiraling.numbers L.m) c.put_arm-k.ensures
-
-pub shape_of-area : goal.shape_of-area
-shape_of-area c = stored_long c.loop-m.invariant
 
 pub returns : goal.returns
 returns c = let A = c.args in

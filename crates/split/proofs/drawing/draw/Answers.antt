@@ -3,12 +3,6 @@ use Rattle.booking.proofs.Totals.{all_most}
 use Rattle.split.proofs.Tables.{splits_all, drawn_long}
 use Rattle.split.proofs.drawing.draw.Goals as goal
 
-pub draw_all-triangles-requires : goal.draw_all-triangles-requires
-draw_all-triangles-requires c = c.sums_of-s.ensures
-
-pub overflow_cast-result : goal.overflow_cast-result
-overflow_cast-result c = omega (arith, c.sums_of-s.ensures.few-splits)
-
 pub returns : goal.returns
 returns c = let A = c.args in
     let G = c.sums_of-s.ensures in

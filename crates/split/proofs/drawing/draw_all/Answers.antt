@@ -19,6 +19,3 @@ write_all-requires c = let A = c.args in
     let d = drawn_long A.tables.cells.now A.tables.counts.now A.tables.names.now A.tables.sides.now A.tables.starts.now in
     let few = all_few A.tables.cells.now A.tables.counts.now A.tables.names.now A.tables.sides.now A.tables.starts.now in
     record { splits_value = G.splits_are; starts_in_bounds = elim c.if-area-s.branch [ then-area-s+else-area-t w ↦ omega (arith, w.count_all.ensures, w.if-area-t.false, G, d) | else-area-s w ↦ omega (arith, few, G, d, w.if-area-s.false) ] }
-
-pub returns : goal.returns
-returns c = c.write_all.ensures

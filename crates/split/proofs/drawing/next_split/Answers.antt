@@ -13,9 +13,3 @@ returns-then-splits-eq0 c = let A = c.args in
       last = λ _. omega arith;
       after = λ h. absurd (omega arith);
     }
-
-pub split_from-requires : goal.split_from-requires
-split_from-requires c = c.requires.0
-
-pub returns : goal.returns
-returns c = c.split_from.ensures

@@ -1,19 +1,13 @@
-use mathlib.Core.Path.{sym, ap, ◌∙◌}
 use native.Mathlib.Omega.{arith}
-use Rattle.counting.specs.Lists.{total, over}
+use Rattle.counting.specs.Lists.{over}
 use Rattle.counting.proofs.Stored.{stored_none, stored_more}
 use Rattle.cell.proofs.Storing.{words_of}
-use Rattle.split.specs.work.Gains.{splits_at}
 use Rattle.split.proofs.Tables.{drawn_at, next_room, stretch_room, stretch_written, all_written}
 use Rattle.split.proofs.drawing.put_cells.Goals as goal
 
 pub loop-s-init : goal.loop-s-init
 unfolding over
 loop-s-init c = (omega arith, stored_none _ 0)
-
-pub next_split-requires : goal.next_split-requires
-next_split-requires c = let A = c.args in
-    (omega arith, c.requires.splits_value ∙ ap (λ m. total (splits_at A.tables.counts.now A.tables.sides.now) m 0) (sym c.drawn-n.ensures))
 
 pub put_stretch-i-requires : goal.put_stretch-i-requires
 put_stretch-i-requires c = let A = c.args in
@@ -26,12 +20,6 @@ put_at-i-requires c = let A = c.args in
     let h = R.1.after R.0 in
     let S = stretch_written A.tables.cells.now A.tables.counts.now A.tables.names.now A.tables.sides.now A.tables.starts.now c.loop-s.invariant.1 P.starts_in_bounds R.1 (omega (arith, c.drawn-n.ensures)) c.put_stretch-i.ensures in
     record { splits_value = h.1; c_in_bounds = next_room A.tables.cells.now A.tables.counts.now A.tables.names.now A.tables.sides.now A.tables.starts.now S P.starts_in_bounds (omega (arith, h.0, c.drawn-n.ensures)) }
-
-pub overflow_add-c : goal.overflow_add-c
-overflow_add-c c = omega (arith, c.in-Some.ensures.1.within, c.drawn-n.ensures)
-
-pub loop-s-smaller : goal.loop-s-smaller
-loop-s-smaller c = let R = c.in-Some.ensures in omega (arith, R.1.from, (R.1.after R.0).0)
 
 pub loop-s-preserved : goal.loop-s-preserved
 loop-s-preserved c = let A = c.args in

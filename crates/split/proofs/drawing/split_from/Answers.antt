@@ -3,9 +3,6 @@ use Rattle.split.proofs.Few.{gain_at}
 use Rattle.split.proofs.Tables.{none_more}
 use Rattle.split.proofs.drawing.split_from.Goals as goal
 
-pub loop-e-init : goal.loop-e-init
-loop-e-init c = λ k a b. absurd (omega arith)
-
 pub returns-then-splits-ne0 : goal.returns-then-splits-ne0
 returns-then-splits-ne0 c = let A = c.args in
     let g = gain_at A.tables.counts.now A.tables.sides.now c.loop-e.e c.counts_at.ensures c.gain_of-splits.ensures in (
@@ -24,13 +21,3 @@ loop-e-preserved c = let A = c.args in
     let I = c.loop-e.invariant in
     let g = gain_at A.tables.counts.now A.tables.sides.now c.loop-e.e c.counts_at.ensures c.gain_of-splits.ensures in
     none_more A.tables.counts.now A.tables.sides.now I (omega (arith, g.0, c.if-splits-ne0.false))
-
-pub returns : goal.returns
-returns c =
-    record {
-      from = c.requires;
-      within = omega arith;
-      none = λ k a b. c.loop-e.invariant k a (omega arith);
-      last = λ _. omega arith;
-      after = λ h. absurd (omega arith);
-    }

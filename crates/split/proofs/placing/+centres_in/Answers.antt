@@ -19,9 +19,6 @@ put_fans-requires t c = let W = c.requires.spun in
 pub returns-then-left-eq0 : goal.returns-then-left-eq0
 returns-then-left-eq0 t c = stored_as c.put_fans.ensures (ap all_numbers (sym (none_fans c.requires.spun c.args.at c.if-left-eq0.true))) refl
 
-pub of-s-requires : goal.of-s-requires
-of-s-requires t c = c.requires.spun.working.sound
-
 pub sub_cell-requires : goal.sub_cell-requires
 sub_cell-requires t c = let h : 0 < c.args.left = omega (arith, c.if-left-eq0.false) in
     let K = left_working c.requires.spun.working h c.of-s.ensures.numbers in

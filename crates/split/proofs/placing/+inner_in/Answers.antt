@@ -12,9 +12,6 @@ use Rattle.split.proofs.placing.+inner_in.Goals as goal
 pub returns-then-left-eq0 : goal.returns-then-left-eq0
 returns-then-left-eq0 t c = let A = c.args in none_inner c.requires.splits_left A.at c.if-left-eq0.true A.area.now A.i
 
-pub of-s-requires : goal.of-s-requires
-of-s-requires t c = c.requires.splits_left.sound
-
 pub put_split-k-requires : goal.put_split-k-requires
 put_split-k-requires t c = let L = c.requires.splits_left in
     let A = c.args in

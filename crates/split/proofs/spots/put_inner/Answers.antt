@@ -8,9 +8,6 @@ use Rattle.split.proofs.spots.put_inner.Goals as goal
 pub returns-then-splits-eq0 : goal.returns-then-splits-eq0
 returns-then-splits-eq0 c = let A = c.args in inner_none c.requires A.nodes.now A.area.now A.i c.if-splits-eq0.true
 
-pub spots_of-requires : goal.spots_of-requires
-spots_of-requires c = record { drawable = c.requires; splits_nonzero = omega (arith, c.if-splits-eq0.false) }
-
 pub inner_in-requires : goal.inner_in-requires
 inner_in-requires c = let A = c.args in
     let D = c.requires in

@@ -10,12 +10,6 @@ returns-then-splits-eq0 c = let A = c.args in
     let W = c.write_fans.ensures in
     fans_whole c.requires A.nodes.now A.area.now A.i c.if-splits-eq0.true W.0 W.1
 
-pub spots_of-p-requires : goal.spots_of-p-requires
-spots_of-p-requires c = record { drawable = c.requires; splits_nonzero = omega (arith, c.if-splits-eq0.false) }
-
-pub overflow_add-p : goal.overflow_add-p
-overflow_add-p c = omega (arith, c.spots_of-p.ensures.few_more, c.spots_of-p.ensures.few_loops)
-
 pub centres_in-requires : goal.centres_in-requires
 centres_in-requires c = let A = c.args in
     let D = c.requires in

@@ -10,6 +10,3 @@ returns-then-splits-eq0 c = let A = c.args in
 
 pub spots_of-requires : goal.spots_of-requires
 spots_of-requires c = let A = c.args in record { drawable = table_drawable A.tables.cells.now A.tables.counts.now A.tables.names.now A.tables.sides.now A.tables.starts.now A.c c.cell_at.ensures c.counts_at.ensures c.gain_of-splits.ensures; splits_nonzero = omega (arith, c.if-splits-eq0.false) }
-
-pub returns : goal.returns
-returns c = rw (← c.cell_at.ensures) c.spots_of.ensures

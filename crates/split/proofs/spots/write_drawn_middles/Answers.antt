@@ -6,15 +6,6 @@ use Rattle.split.proofs.spots.write_drawn_middles.Goals as goal
 pub loop-s-init : goal.loop-s-init
 loop-s-init c = let A = c.args in (omega arith, cells_none (middles_at_cell A.tables.cells.now A.tables.counts.now A.tables.names.now A.tables.sides.now A.tables.starts.now A.nodes.now) A.area.now A.at)
 
-pub middles_at-i-requires : goal.middles_at-i-requires
-middles_at-i-requires c = let R = c.in-Some.ensures in (R.1.after R.0).1
-
-pub overflow_add-c : goal.overflow_add-c
-overflow_add-c c = omega (arith, c.in-Some.ensures.1.within, c.drawn-n.ensures)
-
-pub loop-s-smaller : goal.loop-s-smaller
-loop-s-smaller c = let R = c.in-Some.ensures in omega (arith, R.1.from, (R.1.after R.0).0)
-
 pub loop-s-preserved : goal.loop-s-preserved
 loop-s-preserved c = let A = c.args in
     let R = c.in-Some.ensures in

@@ -1,9 +1,8 @@
 use mathlib.Core.Path.{ap, ◌∙◌}
-use native.Mathlib.Omega.{arith}
 use Rattle.split.specs.Standing.{inner_places}
 use Rattle.split.specs.work.Spots.{points_stored, inner_at_cell}
 use Rattle.split.proofs.Tables.{table_drawable}
-use Rattle.split.proofs.Spotted.{cells_none, cells_more, cells_long, cells_all}
+use Rattle.split.proofs.Spotted.{cells_none, cells_more}
 use Rattle.split.proofs.spots.write_inner.Goals as goal
 
 pub loop-c-init : goal.loop-c-init
@@ -19,13 +18,3 @@ loop-c-preserved c = let A = c.args in
     let nodes = A.nodes.now in
     cells_more (inner_at_cell A.tables.cells.now A.tables.counts.now A.tables.names.now A.tables.sides.now A.tables.starts.now nodes) A.area.now A.at L.c L.invariant
     (c.put_inner-i.ensures ∙ ap (λ v. points_stored L.area L.i (inner_places nodes v)) c.cell_at-v.ensures)
-
-pub shape_of-area : goal.shape_of-area
-shape_of-area c = let A = c.args in
-    let L = c.loop-c in
-    cells_long (inner_at_cell A.tables.cells.now A.tables.counts.now A.tables.names.now A.tables.sides.now A.tables.starts.now A.nodes.now) A.area.now A.at L.c L.invariant
-
-pub returns : goal.returns
-returns c = let A = c.args in
-    let L = c.loop-c in
-    cells_all (inner_at_cell A.tables.cells.now A.tables.counts.now A.tables.names.now A.tables.sides.now A.tables.starts.now A.nodes.now) A.area.now A.at L.c L.invariant (omega (arith, c.drawn-n.ensures))
