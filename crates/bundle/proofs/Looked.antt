@@ -7,10 +7,9 @@ use native.Mathlib.Nat.{mul-zero}
 use native.Mathlib.Decide.{ℕ_discrete}
 use native.Mathlib.Omega.{arith}
 use lib.Dec.{eqb}
-use lib.ListN.{length, get_or, set, length-set}
+use lib.ListN.{length, get_or, set, replicate, length-set}
 use lib.Seq.{get_or-set_same, get_or-set_other}
 use borrow.Author.Tests.{eqb-true, eq-eqb, ne_eqb, lt-ltb}
-use Rattle.counting.specs.Lists.{one}
 use Rattle.counting.specs.Search.{last, some}
 use Rattle.counting.proofs.Bools.{and_left, and_right, and_true, bool_same, eqb_comm}
 use Rattle.counting.proofs.Search.{last_plus, last_ext, some_zero, some_hit, some_miss, some_ext}
@@ -18,7 +17,7 @@ use Rattle.bundle.specs.Record.{byte_values, word_size, head_bytes, count_place,
 use Rattle.bundle.specs.work.Record.{look_size}
 use Rattle.bundle.specs.Bundle.{edge_section, look_section, is_of, record_start, run, edges_from, edges, looks_from, looks, edge_at, look_at, end_in, count_in, same_pair, is_for, is_stray, count_from, count_after}
 use Rattle.trees.specs.work.Trees.{has_key, top_for, Tops}
-use Rattle.bundle.specs.work.Looked.{pair_key, key_at, edge_key, look_key, block_key, EndsWithin, AllEdges, top_of, top_unmet, KeysMarked, count_or}
+use Rattle.bundle.specs.work.Looked.{pair_key, key_at, edge_key, look_key, block_key, EndsWithin, AllEdges, LooksLent, top_of, top_unmet, KeysMarked, count_or}
 use Rattle.trees.proofs.Trees.{top_le, top_key, top_self}
 use Rattle.bundle.proofs.OneRecord.{stands, body_length}
 use Rattle.bundle.proofs.Runs.{Walked, here, walked_next, of_record, next_of, run_all}
@@ -111,7 +110,7 @@ module _ (s : List ℕ) where
               ap (count_from s e) x
 
       -- a place without mark is a stray look
-      module _ (tops met : List ℕ) (t : Tops (block_key s m) n 0 tops) (w : KeysMarked s m n met) (j : ℕ) (hj : j < n) where
+      module _ (tops : List ℕ) (met : List Bool) (t : Tops (block_key s m) n 0 tops) (w : KeysMarked s m n met) (j : ℕ) (hj : j < n) where
         abbrev key : ℕ
         key = look_key s (m + j)
 
@@ -130,32 +129,41 @@ module _ (s : List ℕ) where
         pub unmarked_stray : top_unmet tops met j ≡ is_stray s (m + j)
         unfolding top_unmet is_stray
         unmarked_stray =
-            ap (λ x. eqb (get_or met x 0) 0) (t.at j (omega arith) hj)
-            ∙ ap (λ x. eqb x 0) (w.at top (top_le (block_key s m) n key) ∙ ap one (some_ext _ _ (edges s) edge_met))
-            ∙ flip (some (λ e. is_for s e (m + j)) (edges s))
-          where
-            flip : (b : Bool) → eqb (one b) 0 ≡ not b
-            flip true = refl
-            flip false = refl
+            let up = top_self (block_key s m) n j hj in
+            let e : suc (top - 1) ≡ top = omega (arith, up) in
+            ap (λ x. not (get_or met (x - 1) false)) (t.at j (omega arith) hj)
+            ∙ ap not (w.at (top - 1) (omega (arith, up, top_le (block_key s m) n key)) ∙ some_ext _ _ (edges s) (λ x h. ap (eqb (top_of s m n x)) e ∙ edge_met x h))
+
+-- new marks
+pub unset : (n i : ℕ) → get_or (replicate n false) i false ≡ false
+unset zero i = refl
+unset (suc n) zero = refl
+unset (suc n) (suc i) = unset n i
 
 -- the loop of `mark` has come to edge k
-pub record Marking (s : List ℕ) (m n : ℕ) (met₀ met : List ℕ) (k : ℕ) : Type 0 where
+pub record Marking (s : List ℕ) (m n : ℕ) (met₀ met : List Bool) (k : ℕ) : Type 0 where
   pub long : length met ≡ length met₀
-  pub marks : (i : ℕ) → i ≤ n → get_or met i 0 ≡ one (some (λ e. eqb (top_of s m n e) i) k)
+  pub marks : (i : ℕ) → i < n → get_or met i false ≡ some (λ e. eqb (top_of s m n e) (suc i)) k
 
-module _ (s : List ℕ) (m n : ℕ) (met₀ : List ℕ) where
-  pub marking_none : ((i : ℕ) → get_or met₀ i 0 ≡ 0) → Marking s m n met₀ met₀ 0
-  marking_none blank = record { long = refl; marks = λ i h. blank i ∙ sym (ap one (some_zero (λ e. eqb (top_of s m n e) i))) }
+module _ (s : List ℕ) (m n : ℕ) (met₀ : List Bool) where
+  pub marking_none : ((i : ℕ) → get_or met₀ i false ≡ false) → Marking s m n met₀ met₀ 0
+  marking_none blank = record { long = refl; marks = λ i h. blank i ∙ sym (some_zero (λ e. eqb (top_of s m n e) (suc i))) }
 
-  pub marking_more : (met : List ℕ) (k p : ℕ) → n < length met₀ → p ≡ top_of s m n k → Marking s m n met₀ met k → Marking s m n met₀ (set met p 1) (k + 1)
-  marking_more met k p room e w =
-      record {
-        long = length-set met p 1 ∙ w.long;
-        marks = λ i h. elim (ℕ_discrete p i) [
-          | yes q ↦ rw (← q, get_or-set_same met p 1 0 (omega (arith, w.long, e, top_le (block_key s m) n (edge_key s k)))) (sym (ap one (some_hit _ k (eq-eqb _ _ (sym e)))))
-          | no q ↦ get_or-set_other met p i 1 0 (λ x. q (sym x)) ∙ w.marks i h ∙ sym (ap one (some_miss _ k (ne_eqb _ _ (λ x. q (e ∙ x)))))
-        ];
-      }
+  module _ (met : List Bool) (k : ℕ) (w : Marking s m n met₀ met k) where
+    -- no look has the edge's key
+    pub marking_skip : 0 ≡ top_of s m n k → Marking s m n met₀ met (k + 1)
+    marking_skip z = record { long = w.long; marks = λ i h. w.marks i h ∙ sym (some_miss _ k (ne_eqb _ _ (λ x. omega (arith, z, x)))) }
+
+    -- p is the last that has
+    pub marking_more : (p : ℕ) → n ≤ length met₀ → suc p ≡ top_of s m n k → Marking s m n met₀ (set met p true) (k + 1)
+    marking_more p room e =
+        record {
+          long = length-set met p true ∙ w.long;
+          marks = λ i h. elim (ℕ_discrete p i) [
+            | yes q ↦ rw (← q, get_or-set_same met p true false (omega (arith, w.long, e, top_le (block_key s m) n (edge_key s k)))) (sym (some_hit _ k (eq-eqb _ _ (sym e))))
+            | no q ↦ get_or-set_other met p i true false (λ x. q (sym x)) ∙ w.marks i h ∙ sym (some_miss _ k (ne_eqb _ _ (λ x. omega (arith, q, e, x))))
+          ];
+        }
 
 -- a walk over the edges
 module _ (s : List ℕ) (from count at k : ℕ) (l : AllEdges s from count) (g : Walked s from edge_section at k) where
@@ -185,3 +193,17 @@ module _ (s : List ℕ) (from count at k : ℕ) (l : AllEdges s from count) (g :
 
     pub edge-number : k < edges s
     edge-number = omega (arith, h, l.all)
+
+-- look k of all the looks
+module _ {s : List ℕ} {from count base n : ℕ} (l : LooksLent s from count base n) (k : ℕ) (h : k < n) where
+  listed : k < looks s
+  listed = omega (arith, h, l.all)
+
+  pub look_there : base + look_size * k + look_size ≤ length s
+  look_there = omega (arith, look_within s k listed, l.begin)
+
+  pub look_keyed : key_at s (base + look_size * k) ≡ look_key s k
+  look_keyed = ap (λ b. key_at s (b + look_size * k)) l.begin ∙ ap (key_at s) (sym (look_place s k (omega (arith, listed))))
+
+  pub look_counted : word s (base + look_size * k + head_bytes + count_place) ≡ count_in (body s (look_at s k))
+  look_counted = ap (λ b. word s (b + look_size * k + head_bytes + count_place)) l.begin ∙ look_count s k listed

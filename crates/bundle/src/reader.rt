@@ -7,7 +7,7 @@ ghost use Rattle.bundle.specs.Bundle.{section_number, record_start, run, leading
 ghost use Rattle.bundle.specs.work.Needed.{next_in, WordsLent, CellsLent, EdgesLent, LaidOut};
 
 use crate::kinds::Section;
-use crate::looks::{first_stray, replace};
+use crate::looks::{Looked, first_stray, replace};
 use crate::records::{
     CELL_NODES, COUNT_PLACE, EDGE_ENDS, HEAD_BYTES, LOOK_BYTES, WORD_BYTES, body_at, record_at,
     word_at,
@@ -87,7 +87,14 @@ pub fn scan(bytes: &[u8]) -> Result<Lists, Refusal>
     if next != bytes.len() {
         return Err(Row::Records.at(next));
     }
-    if let Some(k) = first_stray(bytes, cells.stop, edges.count, edges.stop, looks.count) {
+    let looked = Looked {
+        bytes,
+        from: cells.stop,
+        edges: edges.count,
+        base: edges.stop,
+        looks: looks.count,
+    };
+    if let Some(k) = first_stray(&looked) {
         return Err(Row::Look.at(edges.stop + LOOK_BYTES * k));
     }
     Ok(Lists {
@@ -177,7 +184,13 @@ pub fn read(
     }
     let from = fill_cells(bytes, lists.cells, nodes);
     let base = fill_edges(bytes, from, lists.edges, ends, counts);
-    let looks = run_from(bytes, base, Section::Looks);
-    replace(bytes, from, lists.edges, base, looks.count, counts);
+    let looked = Looked {
+        bytes,
+        from,
+        edges: lists.edges,
+        base,
+        looks: run_from(bytes, base, Section::Looks).count,
+    };
+    replace(&looked, counts);
     Ok(lists)
 }

@@ -6,7 +6,9 @@ use native.Mathlib.Decide.{dec_lt}
 use native.Mathlib.Omega.{arith}
 use Rattle.counting.specs.Search.{found}
 use Rattle.counting.proofs.Search.{first_is, first_below, first_none, found_first, found_none, found_hit, found_end}
+use Rattle.bundle.specs.Bundle.{is_stray}
 use Rattle.bundle.proofs.looks.first_stray.Goals as goal
+use Rattle.bundle.proofs.looks.first_stray.Goals.{After-stray_in}
 
 -- none of the first m passes
 module _ (t : ℕ → Bool) (m n : ℕ) (none : (i : ℕ) → i < m → t i ≡ false) where
@@ -30,18 +32,20 @@ module _ (t : ℕ → Bool) (m n : ℕ) (none : (i : ℕ) → i < m → t i ≡ 
 pub loop-m-init : goal.loop-m-init
 loop-m-init c = (omega arith, λ i h. absurd (omega (arith, h)))
 
-pub stray_in-requires : goal.stray_in-requires
-stray_in-requires c = let p = c.requires in
-    record { listed = p.listed; part = record { begin = p.begin; within = omega (arith, p.all) }; few = omega (arith) }
+-- what the block tells, by the place where it starts
+block_told : (c : After-stray_in) → c.stray_in.result ≡ found (λ j. is_stray c.args.looked.now.bytes.now (c.loop-m.m + j)) c.block-block.result.count
+block_told c = let b = c.block-block.ensures in rw (b.of, b.first) at c.stray_in.ensures
 
 pub overflow_add-result : goal.overflow_add-result
-overflow_add-result c = let w = found_first _ _ _ c.in-Some.ensures in omega (arith, w.1)
+overflow_add-result c =
+    let w = found_first _ _ _ c.in-Some.ensures in
+    omega (arith, w.1, c.block-block.ensures.count)
 
 pub returns-in-Some : goal.returns-in-Some
-returns-in-Some c = hit _ _ _ c.loop-m.invariant.1 _ _ (omega (arith, c.requires.all)) c.in-Some.ensures
+returns-in-Some c = hit _ _ _ c.loop-m.invariant.1 _ _ (omega (arith, c.args.looked.now.lent.all, c.block-block.ensures.count)) (rw c.in-Some.is at (block_told (goal.at.returns-in-Some c).After-stray_in))
 
 pub loop-m-preserved : goal.loop-m-preserved
-loop-m-preserved c = (omega arith, miss _ _ _ c.loop-m.invariant.1 c.in_default.ensures)
+loop-m-preserved c = (omega (arith, c.block-block.ensures.count), miss _ _ _ c.loop-m.invariant.1 (rw c.in_default.is at (block_told (goal.at.loop-m-preserved c).After-stray_in)))
 
 pub returns : goal.returns
-returns c = found_end _ _ (λ i h. c.loop-m.invariant.1 i (omega (arith, c.requires.all, h)))
+returns c = found_end _ _ (λ i h. c.loop-m.invariant.1 i (omega (arith, c.args.looked.now.lent.all, h)))

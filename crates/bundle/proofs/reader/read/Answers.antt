@@ -87,18 +87,24 @@ fill_edges-base-requires c = let g = (goal.at.fill_edges-base-requires c).In_ok-
       counts_room = c.if-counts-lists.false;
     }
 
-pub replace-requires : goal.replace-requires
+pub invariant_of-looked : goal.invariant_of-looked
 unfolding looks
-replace-requires c = let g = (goal.at.replace-requires c).In_ok-lists in
+invariant_of-looked c =
+    let g = (goal.at.invariant_of-looked c).In_ok-lists in
     let b = c.fill_edges-base.ensures.value in
     record {
-      looks_lent = record {
+      lent = record {
+        bytes = λ i. omega (arith, c.type_inv.bytes i);
         listed = record { begin = c.fill_cells-from.ensures.value; all = edges-are g };
         begin = b;
-        all = c.run_from-looks.ensures.0 ∙ ap (run (bytes g) look_section) b;
+        all = c.run_from.ensures.0 ∙ ap (run (bytes g) look_section) b;
       };
-      counted = filled_table _ _ _ _ c.fill_edges-base.ensures.counts_after (omega (arith, edges-are g, c.if-counts-lists.false));
     }
+
+pub replace-requires : goal.replace-requires
+replace-requires c =
+    let g = (goal.at.replace-requires c).In_ok-lists in
+    filled_table _ _ _ _ c.fill_edges-base.ensures.counts_after (omega (arith, edges-are g, c.if-counts-lists.false))
 
 pub returns-in_err-lists : goal.returns-in_err-lists
 returns-in_err-lists c =

@@ -48,8 +48,9 @@ returns-then-next-bytes c =
     let r = ended (goal.at.returns-then-next-bytes c).In-Some in
     ap refusal_numbers c.at-then-next-bytes.ensures ∙ ap (refusal broken_row) r.1 ∙ sym (answer_after c.args.bytes.now r.0 (λ h. omega (arith, c.if-next-bytes.true, r.1, h)))
 
-pub first_stray-requires : goal.first_stray-requires
-first_stray-requires c = let w = c.layout_of.ensures in record { listed = record { begin = w.edges_begin; all = w.edges_are }; begin = w.looks_begin; all = w.looks_are }
+pub invariant_of-looked : goal.invariant_of-looked
+invariant_of-looked c = let w = c.layout_of.ensures in
+    record { lent = record { bytes = λ i. omega (arith, c.type_inv.bytes i); listed = record { begin = w.edges_begin; all = w.edges_are }; begin = w.looks_begin; all = w.looks_are } }
 
 pub overflow_mul-k : goal.overflow_mul-k
 overflow_mul-k c = omega (arith, within (goal.at.overflow_mul-k c).In-Some-first_stray)
