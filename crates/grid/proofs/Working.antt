@@ -12,11 +12,12 @@ use Rattle.counting.specs.Search.{found}
 use Rattle.counting.proofs.Tables.{zeros}
 use Rattle.counting.proofs.Search.{first_none, found_none, some_none}
 use Rattle.grid.specs.Grid.{Before, Grid, cell_count, high, low}
-use Rattle.slots.specs.Limits.{highest_node}
 use Rattle.grid.specs.Rows.{bad_edge, unlisted, unused}
 use Rattle.grid.specs.work.Runs.{Blanked, SidesPlaceable, SidesPlaced, Tallied, Talliable}
 use Rattle.grid.specs.work.Walks.{ChainTables, Fresh}
-use Rattle.grid.specs.work.Work.{Blank, CellTables, EdgeTables, Edging, Linkable, OneEach, Siding, Usable, Using, blank_in, listed_at}
+use Rattle.grid.specs.declared.scratch.Chain.{Chain}
+use Rattle.grid.specs.work.Held.{NewChain, Sized}
+use Rattle.grid.specs.work.Work.{Blank, Edging, Linkable, OneEach, Siding, Usable, Using, blank_in, listed_at}
 use Rattle.counting.specs.work.Tables.{Table}
 use Rattle.grid.proofs.Blocks.{found_same}
 use Rattle.grid.proofs.Sides.{listed_table, placed_below, unlisted_blank}
@@ -30,40 +31,22 @@ fresh_zeros m N h = record { room = omega (arith, length-replicate {A = ℕ} N 0
 pub fresh_again : {m N : ℕ} {l : List ℕ} → m ≤ N → length l ≡ N → Blanked l → Fresh m l
 fresh_again h e z = record { room = omega arith; blank = z }
 
-module _ (n N : ℕ) (h : n ≤ N) where
-  pub blank_tables : Blank n (replicate (4 * N) 0) (replicate (6 * N) 0)
-  blank_tables = record { near_new = fresh_zeros (4 * n) (4 * N) (omega arith); sides_new = fresh_zeros (6 * n) (6 * N) (omega arith) }
+pub fresh_less : {m N : ℕ} {l : List ℕ} → m ≤ N → Fresh N l → Fresh m l
+fresh_less h f = record { room = omega (arith, f.room); blank = f.blank }
 
-  pub cell-tables : CellTables n (replicate (4 * N) 0) (replicate (highest_node + 1) 0) (replicate (4 * N + 1) 0) (replicate (4 * N) 0) (replicate (4 * N) 0)
-  cell-tables = record {
-    labels_new = fresh_zeros (4 * n) (4 * N) (omega arith);
-    ranks_new = fresh_zeros (highest_node + 1) (highest_node + 1) (omega arith);
-    faces_new = fresh_zeros (4 * n) (4 * N) (omega arith);
-    same_new = fresh_zeros (4 * n) (4 * N) (omega arith);
-    at_new = fresh_zeros (4 * n + 1) (4 * N + 1) (omega arith);
-  }
+pub blank_tables : (n S E : ℕ) → 4 * n ≤ S → 6 * n ≤ E → Blank n (replicate S 0) (replicate E 0)
+blank_tables n S E h l = record { near_new = fresh_zeros (4 * n) S h; sides_new = fresh_zeros (6 * n) E l }
 
-  room_zeros : n ≤ length (replicate {A = ℕ} N 0)
-  room_zeros = omega (arith, length-replicate {A = ℕ} N 0)
-
-  pub chain-tables : ChainTables n (replicate (4 * N + 1) 0) (replicate N 0) (replicate (4 * N + 1) 0) (replicate N 0) (replicate (4 * N + 1) 0) (replicate N 0)
-  chain-tables = record {
-    h0_new = fresh_zeros (4 * n + 1) (4 * N + 1) (omega arith);
-    h1_new = fresh_zeros (4 * n + 1) (4 * N + 1) (omega arith);
-    h2_new = fresh_zeros (4 * n + 1) (4 * N + 1) (omega arith);
-    x0_room = room_zeros;
-    x1_room = room_zeros;
-    x2_room = room_zeros;
-  }
-
-  pub edge-tables : EdgeTables n (replicate (highest_node + 1) 0) (replicate (6 * N + 2) 0) (replicate (6 * N + 2) 0) (replicate N 0)
-  edge-tables = record {
-    tab_new = fresh_zeros (highest_node + 1) (highest_node + 1) (omega arith);
-    top_new = fresh_zeros (6 * n + 2) (6 * N + 2) (omega arith);
-    degree_new = fresh_zeros (6 * n + 2) (6 * N + 2) (omega arith);
-    long = omega arith;
-    marks_new = fresh_zeros n N h;
-  }
+pub chains_new : {cells slots labels edges n : ℕ} (a b d : Chain labels cells) → Sized cells slots labels edges → n ≤ cells
+    → NewChain a → NewChain b → NewChain d → ChainTables n a.head a.next b.head b.next d.head d.next
+chains_new a b d s h x y z = record {
+  h0_new = fresh_less (omega (arith, s.labels_are)) x.0;
+  h1_new = fresh_less (omega (arith, s.labels_are)) y.0;
+  h2_new = fresh_less (omega (arith, s.labels_are)) z.0;
+  x0_room = omega (arith, x.1.room);
+  x1_room = omega (arith, y.1.room);
+  x2_room = omega (arith, z.1.room);
+}
 
 -- rows 6 and 7
 pub edging_siding : {G : Grid} {near ranks h0 x0 h1 x1 h2 x2 tab top degree marks sides : List ℕ} → Edging G near ranks h0 x0 h1 x1 h2 x2 tab top degree marks sides

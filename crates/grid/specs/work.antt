@@ -6,3 +6,4 @@ pub mod Walks
 pub mod Seen
 pub mod Runs
 pub mod Work
+pub mod Held

@@ -3,26 +3,30 @@
 
 ghost use Rattle.std.specs.Prelude.{◌≡◌, false, ◌*◌, ◌<◌, ◌≤◌, length};
 ghost use Rattle.grid.specs.Grid.{grid_of, cell_count};
-ghost use Rattle.slots.specs.Limits.{most_cells};
+ghost use Rattle.slots.specs.Limits.{most_cells, most_slots};
+ghost use Rattle.slots.specs.work.Limits.{most_edges};
 ghost use Rattle.grid.specs.Rows.{grid_answer, repeats};
 ghost use Rattle.counting.specs.Search.{found};
 ghost use Rattle.grid.specs.Check.{check_numbers};
 ghost use Rattle.grid.specs.Lent.{lent, rebuilt};
+ghost use Rattle.grid.specs.work.Held.{ComparableBy, EdgingBy, LowChained, SidingBy, Sized};
 ghost use Rattle.grid.specs.work.Shared.{capped};
 ghost use Rattle.grid.specs.work.Tables.{Laid};
 ghost use Rattle.grid.specs.Opening.{open_answer, open_starts};
 ghost use Rattle.grid.specs.Setting.{set_answer, set_counts, set_starts};
-ghost use Rattle.grid.specs.work.Work.{RisingCells, Early, listed_at, answer_from, answer_with, Celling, Numbering, CellTables, EdgeTables, Edging, Siding, Using, Linkable, Blank, Worked, WhereAccepted, Changeable, Changed};
+ghost use Rattle.grid.specs.work.Work.{RisingCells, Early, listed_at, answer_from, answer_with, Celling, Numbering, Using, Linkable, Blank, Worked, WhereAccepted, Changeable, Changed};
 ghost use Rattle.counting.specs.work.Tables.{Table};
-ghost use Rattle.grid.specs.work.Walks.{ChainTables, LowChains, Comparable, Fresh};
+ghost use Rattle.grid.specs.work.Walks.{Fresh};
 
 use answer::{Refusal, Row};
+use scratch::{Chain, EdgeTables, NodeTables, SlotTables};
 
 mod cells;
 mod edges;
 mod links;
 mod numbering;
 mod runs;
+mod scratch;
 mod shared;
 mod tables;
 
@@ -40,6 +44,16 @@ const FEW_CELLS: usize = 64;
 const FEW_SLOTS: usize = 4 * FEW_CELLS;
 
 const FEW_EDGES: usize = 6 * FEW_CELLS;
+
+// Labels are numbers of nodes, from 1 on.
+const FEW_LABELS: usize = FEW_SLOTS + 1;
+
+const MOST_LABELS: usize = MOST_SLOTS + 1;
+
+// Numbers of edges, from 1 on, and one for those beyond.
+const FEW_TOPS: usize = FEW_EDGES + 2;
+
+const MOST_TOPS: usize = MOST_EDGES + 2;
 
 // A grid's lists, as lent: four nodes to a cell, two to an edge, a count to an edge, and its start.
 #[derive(Clone, Copy)]
@@ -65,18 +79,23 @@ pub fn total(counts: &[u16]) -> u32
 }
 
 // Rows 9 and 10.
-fn last_rows(
+fn last_rows<const EDGES: usize, const CELLS: usize>(
     grid: Grid,
     near: &[u16],
     sides: &[u16],
-    top: &[u16],
-    degree: &[u16],
-    marks: &mut [u16],
+    by_edge: &mut EdgeTables<EDGES, CELLS>,
 ) -> Result<u32, Refusal>
-    requires { Linkable (rebuilt grid) near.now sides.now top.now degree.now marks.old }
+    requires { Linkable (rebuilt grid) near.now sides.now by_edge.old.top by_edge.old.degree by_edge.old.marks }
     ensures { check_numbers result ≡ answer_from 9 (rebuilt grid.entry) }
 {
-    if let Some(e) = links::row_9(grid, near, sides, top, degree, marks) {
+    if let Some(e) = links::row_9(
+        grid,
+        near,
+        sides,
+        &by_edge.top,
+        &by_edge.degree,
+        &mut by_edge.marks,
+    ) {
         return Err(Row::EdgeUnlinked.at(e));
     }
     let sum = total(grid.counts);
@@ -87,73 +106,57 @@ fn last_rows(
 }
 
 // Row 8, and those after it, where every edge of a cell is listed.
-fn used_rows(
+fn used_rows<const EDGES: usize, const CELLS: usize>(
     grid: Grid,
     near: &[u16],
     sides: &[u16],
-    top: &[u16],
-    degree: &[u16],
-    marks: &mut [u16],
+    by_edge: &mut EdgeTables<EDGES, CELLS>,
 ) -> Result<u32, Refusal>
-    requires { Using (rebuilt grid) near.now sides.now top.now degree.now marks.old }
+    requires { Using (rebuilt grid) near.now sides.now by_edge.old.top by_edge.old.degree by_edge.old.marks }
     ensures result_value { check_numbers result ≡ answer_from 8 (rebuilt grid.entry) }
     ensures where_accepted { WhereAccepted result (Table (listed_at (rebuilt grid.entry)) (6 * cell_count grid.entry.cells.now) sides.now) }
 {
-    if let Some(e) = edges::row_8(grid, sides, top) {
+    if let Some(e) = edges::row_8(grid, sides, &by_edge.top) {
         return Err(Row::EdgeStray.at(e));
     }
-    last_rows(grid, near, sides, top, degree, marks)
+    last_rows(grid, near, sides, by_edge)
 }
 
 // Rows 7 and 8, and those after them.
-fn side_rows(
+fn side_rows<const LABELS: usize, const CELLS: usize, const EDGES: usize>(
     grid: Grid,
     near: &[u16],
-    ranks: &[u16],
-    h0: &[u16],
-    x0: &[u16],
-    h1: &[u16],
-    x1: &[u16],
-    h2: &[u16],
-    x2: &[u16],
-    tab: &mut [u16],
-    top: &mut [u16],
-    degree: &mut [u16],
-    marks: &mut [u16],
+    by_node: &NodeTables<LABELS, CELLS>,
+    by_edge: &mut EdgeTables<EDGES, CELLS>,
     sides: &mut [u16],
 ) -> Result<u32, Refusal>
-    requires { Siding (rebuilt grid) near.now ranks.now h0.now x0.now h1.now x1.now h2.now x2.now tab.old top.old degree.old marks.old sides.old }
+    requires { SidingBy (rebuilt grid) near.now by_node.now by_edge.old sides.old }
     ensures result_value { check_numbers result ≡ answer_from 7 (rebuilt grid.entry) }
     ensures where_accepted { WhereAccepted result (Table (listed_at (rebuilt grid.entry)) (6 * cell_count grid.entry.cells.now) sides.new) }
 {
-    let m = grid.counts.len();
     runs::place_sides(
-        grid.cells, grid.edges, m, ranks, h0, x0, h1, x1, h2, x2, tab, sides,
+        grid.cells,
+        grid.edges,
+        grid.counts.len(),
+        by_node,
+        &mut by_edge.tab,
+        sides,
     );
-    if let Some(c) = edges::row_7(grid.cells, sides, top, degree) {
+    if let Some(c) = edges::row_7(grid.cells, sides, &mut by_edge.top, &mut by_edge.degree) {
         return Err(Row::EdgeMissing.at(c));
     }
-    used_rows(grid, near, sides, top, degree, marks)
+    used_rows(grid, near, sides, by_edge)
 }
 
 // Rows 6 and 18, and those after them.
-fn edge_rows(
+fn edge_rows<const LABELS: usize, const CELLS: usize, const EDGES: usize>(
     grid: Grid,
     near: &[u16],
-    ranks: &[u16],
-    h0: &[u16],
-    x0: &[u16],
-    h1: &[u16],
-    x1: &[u16],
-    h2: &[u16],
-    x2: &[u16],
-    tab: &mut [u16],
-    top: &mut [u16],
-    degree: &mut [u16],
-    marks: &mut [u16],
+    by_node: &NodeTables<LABELS, CELLS>,
+    by_edge: &mut EdgeTables<EDGES, CELLS>,
     sides: &mut [u16],
 ) -> Result<u32, Refusal>
-    requires { Edging (rebuilt grid) near.now ranks.now h0.now x0.now h1.now x1.now h2.now x2.now tab.old top.old degree.old marks.old sides.old }
+    requires { EdgingBy (rebuilt grid) near.now by_node.now by_edge.old sides.old }
     ensures result_value { check_numbers result ≡ answer_from 6 (rebuilt grid.entry) }
     ensures where_accepted { WhereAccepted result (Table (listed_at (rebuilt grid.entry)) (6 * cell_count grid.entry.cells.now) sides.new) }
 {
@@ -163,182 +166,70 @@ fn edge_rows(
     if let Some(e) = edges::row_18(grid.counts) {
         return Err(Row::Count.at(e));
     }
-    side_rows(
-        grid, near, ranks, h0, x0, h1, x1, h2, x2, tab, top, degree, marks, sides,
-    )
+    side_rows(grid, near, by_node, by_edge, sides)
 }
 
 // Row 4 by the cells' numbers.
-fn crowded_row_4(
+fn crowded_row_4<const SLOTS: usize, const LABELS: usize, const CELLS: usize>(
     cells: &[u16],
     many: usize,
-    h0: &[u16],
-    x0: &[u16],
-    faces: &[u16],
-    at: &mut [u16],
-    same: &mut [u16],
+    chain: &Chain<LABELS, CELLS>,
+    by_slot: &mut SlotTables<SLOTS, LABELS>,
 ) -> Option<usize>
-    requires low_chains { LowChains cells.now many h0.now x0.now }
-    requires comparable { Comparable cells.now faces.now at.old same.old }
+    requires low_chains { LowChained cells.now many chain.now }
+    requires comparable { ComparableBy cells.now by_slot.old }
     ensures { result ≡ found (repeats cells.now) (cell_count cells.now) }
 {
-    numbering::number_cells(cells, many, h0, x0, faces, at, same);
-    numbering::clear(at);
-    cells::first_same(cells, same, at)
+    numbering::number_cells(cells, many, chain, by_slot);
+    numbering::clear(&mut by_slot.at);
+    cells::first_same(cells, &by_slot.same, &mut by_slot.at)
 }
 
 // Rows 4 and 5; where neither refuses, near has the neighbours. Only where row 5 has a place, the cells are numbered for row 4.
-fn early_rows(
+fn early_rows<const SLOTS: usize, const LABELS: usize, const CELLS: usize>(
     grid: Grid,
     many: usize,
-    h0: &[u16],
-    x0: &[u16],
-    faces: &[u16],
-    at: &mut [u16],
-    same: &mut [u16],
+    chain: &Chain<LABELS, CELLS>,
+    by_slot: &mut SlotTables<SLOTS, LABELS>,
     near: &mut [u16],
 ) -> Result<(), Refusal>
     requires rising_cells { RisingCells grid.cells.now }
-    requires low_chains { LowChains grid.cells.now many h0.now x0.now }
-    requires comparable { Comparable grid.cells.now faces.now at.old same.old }
+    requires low_chains { LowChained grid.cells.now many chain.now }
+    requires comparable { ComparableBy grid.cells.now by_slot.old }
     requires fresh { Fresh (4 * cell_count grid.cells.now) near.old }
     ensures { Early (rebuilt grid.entry) near.new result }
 {
-    numbering::clear(at);
-    let Some(crowded) = cells::row_5(grid.cells, faces, at, near) else {
+    numbering::clear(&mut by_slot.at);
+    let Some(crowded) = cells::row_5(grid.cells, &by_slot.faces, &mut by_slot.at, near) else {
         if let Some(c) = cells::row_4(grid.cells, near) {
             return Err(Row::CellRepeated.at(c));
         }
         return Ok(());
     };
-    if let Some(c) = crowded_row_4(grid.cells, many, h0, x0, faces, at, same) {
+    if let Some(c) = crowded_row_4(grid.cells, many, chain, by_slot) {
         return Err(Row::CellRepeated.at(c));
     }
     Err(Row::FaceCrowded.at(crowded))
 }
 
-// Rows 4 and 5, and those after them. The tables are new and have room for the cells.
-fn table_rows(
+// Rows 4 and 5, and those after them, with tables for CELLS cells.
+fn table_rows<const CELLS: usize, const SLOTS: usize, const LABELS: usize, const EDGES: usize>(
     grid: Grid,
     near: &mut [u16],
     sides: &mut [u16],
-    labels: &mut [u16],
-    ranks: &mut [u16],
-    h0: &mut [u16],
-    x0: &mut [u16],
-    h1: &mut [u16],
-    x1: &mut [u16],
-    h2: &mut [u16],
-    x2: &mut [u16],
-    at: &mut [u16],
-    faces: &mut [u16],
-    same: &mut [u16],
-    tab: &mut [u16],
-    top: &mut [u16],
-    degree: &mut [u16],
-    marks: &mut [u16],
 ) -> Result<u32, Refusal>
-    requires numbering { Numbering (rebuilt grid) near.old sides.old }
-    requires cell_tables { CellTables (cell_count grid.cells.now) labels.old ranks.old at.old faces.old same.old }
-    requires chain_tables { ChainTables (cell_count grid.cells.now) h0.old x0.old h1.old x1.old h2.old x2.old }
-    requires edge_tables { EdgeTables (cell_count grid.cells.now) tab.old top.old degree.old marks.old }
-    ensures result_value { check_numbers result ≡ answer_from 4 (rebuilt grid.entry) }
-    ensures where_accepted { WhereAccepted result (Worked (rebuilt grid.entry) near.new sides.new) }
-{
-    let many = numbering::number_faces(
-        grid.cells, labels, ranks, h0, x0, h1, x1, h2, x2, at, faces, same,
-    );
-    early_rows(grid, many, h0, x0, faces, at, same, near)?;
-    edge_rows(
-        grid, near, ranks, h0, x0, h1, x1, h2, x2, tab, top, degree, marks, sides,
-    )
-}
-
-// The same with tables for 64 cells.
-fn few_rows(grid: Grid, near: &mut [u16], sides: &mut [u16]) -> Result<u32, Refusal>
-    requires cells_bound { cell_count grid.cells.now ≤ 64 }
+    requires sized { Sized CELLS SLOTS LABELS EDGES }
+    requires cells_bound { cell_count grid.cells.now ≤ CELLS }
     requires numbering { Numbering (rebuilt grid) near.old sides.old }
     ensures result_value { check_numbers result ≡ answer_from 4 (rebuilt grid.entry) }
     ensures where_accepted { WhereAccepted result (Worked (rebuilt grid.entry) near.new sides.new) }
 {
-    let mut labels = [0u16; FEW_SLOTS];
-    let mut ranks = [0u16; NODES];
-    let mut h0 = [0u16; FEW_SLOTS + 1];
-    let mut x0 = [0u16; FEW_CELLS];
-    let mut h1 = [0u16; FEW_SLOTS + 1];
-    let mut x1 = [0u16; FEW_CELLS];
-    let mut h2 = [0u16; FEW_SLOTS + 1];
-    let mut x2 = [0u16; FEW_CELLS];
-    let mut at = [0u16; FEW_SLOTS + 1];
-    let mut faces = [0u16; FEW_SLOTS];
-    let mut same = [0u16; FEW_SLOTS];
-    let mut tab = [0u16; NODES];
-    let mut top = [0u16; FEW_EDGES + 2];
-    let mut degree = [0u16; FEW_EDGES + 2];
-    let mut marks = [0u16; FEW_CELLS];
-    table_rows(
-        grid,
-        near,
-        sides,
-        &mut labels,
-        &mut ranks,
-        &mut h0,
-        &mut x0,
-        &mut h1,
-        &mut x1,
-        &mut h2,
-        &mut x2,
-        &mut at,
-        &mut faces,
-        &mut same,
-        &mut tab,
-        &mut top,
-        &mut degree,
-        &mut marks,
-    )
-}
-
-// The same with tables for 2,048 cells.
-fn many_rows(grid: Grid, near: &mut [u16], sides: &mut [u16]) -> Result<u32, Refusal>
-    requires { Numbering (rebuilt grid) near.old sides.old }
-    ensures result_value { check_numbers result ≡ answer_from 4 (rebuilt grid.entry) }
-    ensures where_accepted { WhereAccepted result (Worked (rebuilt grid.entry) near.new sides.new) }
-{
-    let mut labels = [0u16; MOST_SLOTS];
-    let mut ranks = [0u16; NODES];
-    let mut h0 = [0u16; MOST_SLOTS + 1];
-    let mut x0 = [0u16; MOST_CELLS];
-    let mut h1 = [0u16; MOST_SLOTS + 1];
-    let mut x1 = [0u16; MOST_CELLS];
-    let mut h2 = [0u16; MOST_SLOTS + 1];
-    let mut x2 = [0u16; MOST_CELLS];
-    let mut at = [0u16; MOST_SLOTS + 1];
-    let mut faces = [0u16; MOST_SLOTS];
-    let mut same = [0u16; MOST_SLOTS];
-    let mut tab = [0u16; NODES];
-    let mut top = [0u16; MOST_EDGES + 2];
-    let mut degree = [0u16; MOST_EDGES + 2];
-    let mut marks = [0u16; MOST_CELLS];
-    table_rows(
-        grid,
-        near,
-        sides,
-        &mut labels,
-        &mut ranks,
-        &mut h0,
-        &mut x0,
-        &mut h1,
-        &mut x1,
-        &mut h2,
-        &mut x2,
-        &mut at,
-        &mut faces,
-        &mut same,
-        &mut tab,
-        &mut top,
-        &mut degree,
-        &mut marks,
-    )
+    let mut by_node = NodeTables::<LABELS, CELLS>::new();
+    let mut by_slot = SlotTables::<SLOTS, LABELS>::new();
+    let mut by_edge = EdgeTables::<EDGES, CELLS>::new();
+    let many = numbering::number_faces(grid.cells, &mut by_node, &mut by_slot);
+    early_rows(grid, many, &by_node.chains.first, &mut by_slot, near)?;
+    edge_rows(grid, near, &by_node, &mut by_edge, sides)
 }
 
 // Row 3, and those after it.
@@ -351,9 +242,9 @@ fn cell_rows(grid: Grid, near: &mut [u16], sides: &mut [u16]) -> Result<u32, Ref
         return Err(Row::CellNodes.at(c));
     }
     if grid.cells.len() / 4 <= FEW_CELLS {
-        return few_rows(grid, near, sides);
+        return table_rows::<FEW_CELLS, FEW_SLOTS, FEW_LABELS, FEW_TOPS>(grid, near, sides);
     }
-    many_rows(grid, near, sides)
+    table_rows::<MOST_CELLS, MOST_SLOTS, MOST_LABELS, MOST_TOPS>(grid, near, sides)
 }
 
 // All rows, where `wrong` is row 2's verdict. Where the grid is accepted, near has the neighbours and sides the edges of the cells.
@@ -372,19 +263,30 @@ fn all_rows(grid: Grid, wrong: bool, near: &mut [u16], sides: &mut [u16]) -> Res
     cell_rows(grid, near, sides)
 }
 
+// All rows, with two tables of these sizes.
+fn sized_rows<const SLOTS: usize, const EDGES: usize>(
+    grid: Grid,
+    wrong: bool,
+) -> Result<u32, Refusal>
+    requires edges_len { wrong ≡ false → length grid.edges.now ≡ 2 * length grid.counts.now }
+    requires rooms { cell_count grid.cells.now ≤ most_cells → (4 * cell_count grid.cells.now ≤ SLOTS) × (6 * cell_count grid.cells.now ≤ EDGES) }
+    requires small { (SLOTS ≤ most_slots) × (EDGES ≤ most_edges) }
+    ensures { check_numbers result ≡ answer_with wrong (rebuilt grid.entry) }
+{
+    let mut near = [0u16; SLOTS];
+    let mut sides = [0u16; EDGES];
+    all_rows(grid, wrong, &mut near, &mut sides)
+}
+
 // All rows, with tables of their own: few for few cells.
 fn judge(grid: Grid, wrong: bool) -> Result<u32, Refusal>
     requires { wrong ≡ false → length grid.edges.now ≡ 2 * length grid.counts.now }
     ensures { check_numbers result ≡ answer_with wrong (rebuilt grid.entry) }
 {
     if grid.cells.len() / 4 <= FEW_CELLS {
-        let mut near = [0u16; FEW_SLOTS];
-        let mut sides = [0u16; FEW_EDGES];
-        return all_rows(grid, wrong, &mut near, &mut sides);
+        return sized_rows::<FEW_SLOTS, FEW_EDGES>(grid, wrong);
     }
-    let mut near = [0u16; MOST_SLOTS];
-    let mut sides = [0u16; MOST_EDGES];
-    all_rows(grid, wrong, &mut near, &mut sides)
+    sized_rows::<MOST_SLOTS, MOST_EDGES>(grid, wrong)
 }
 
 // The grid check, in time linear in the cells and the listed edges. Keeps 233 KB on the stack, with what its functions keep.

@@ -3,7 +3,10 @@ ghost use Rattle.std.specs.Prelude.{◌≡◌, ◌*◌, ◌+◌, ◌/◌, ◌<�
 ghost use Rattle.grid.specs.work.Numbered.{Numberable, Ready, Does, number_of, ids_after, at_after, mark_of};
 ghost use Rattle.grid.specs.work.Walks.{Linked, Linkable, label_at, InSlots, Walkable, Walks, Passable, Passed, Labelling, Labels, corner, SameFrom, SameNodes, Pairable, Slots, Cells, Slotted, LabelChains, LowChains, Numerable, Comparable, ChainTables, Fresh};
 ghost use Rattle.grid.specs.work.Runs.{Blanked, NodeChains};
+ghost use Rattle.grid.specs.work.Held.{ChainsNew, ComparableBy, LabelsChained, LowChained, NodesChained, NumerableBy};
 ghost use Rattle.counting.specs.Stored.{filled};
+
+use crate::scratch::{Chain, Chains, NodeTables, SlotTables};
 
 // Gives item i the number of its key in this turn: the one that at has, where it is above base, else the next. Answers the last number given out.
 fn number(i: usize, keys: &[u16], base: usize, ids: usize, at: &mut [u16], out: &mut [u16]) -> usize
@@ -48,9 +51,8 @@ fn numbers(
 }
 
 // Numbers these slots of the cells with the label r, along their chain.
-fn walk(
-    head: &[u16],
-    next: &[u16],
+fn walk<const LABELS: usize, const CELLS: usize>(
+    chain: &Chain<LABELS, CELLS>,
     r: usize,
     from: usize,
     to: usize,
@@ -60,43 +62,46 @@ fn walk(
     at: &mut [u16],
     out: &mut [u16],
 ) -> usize
-    requires { Walkable head.now next.now r from to keys.now base ids at.old out.old }
-    ensures { Walks head.now next.now r from to keys.now base ids at.old out.old result at.new out.new }
+    requires { Walkable chain.now.head chain.now.next r from to keys.now base ids at.old out.old }
+    ensures { Walks chain.now.head chain.now.next r from to keys.now base ids at.old out.old result at.new out.new }
 {
     if to <= from {
         return ids;
     }
     let mut m = ids;
     // Stays: a while, since the next place comes from the links and not from a range.
-    let mut j = head[r] as usize;
+    let mut j = chain.head[r] as usize;
     while 0 < j {
         let c = j - 1;
         m = numbers(c, from, to, keys, base, m, at, out);
-        j = next[c] as usize;
+        j = chain.next[c] as usize;
     }
     m
 }
 
 // Chains the first n cells by their label at position i.
-fn link(labels: &[u16], i: usize, n: usize, head: &mut [u16], next: &mut [u16])
-    requires { Linkable labels.now i n head.old next.old }
-    ensures { Linked (label_at labels.now i) (length head.old) n head.new next.new }
+fn link<const LABELS: usize, const CELLS: usize>(
+    labels: &[u16],
+    i: usize,
+    n: usize,
+    chain: &mut Chain<LABELS, CELLS>,
+)
+    requires { Linkable labels.now i n chain.old.head chain.old.next }
+    ensures { Linked (label_at labels.now i) (length chain.old.head) n chain.new.head chain.new.next }
 {
     for c in 0..n {
         let h = labels[4 * c + i] as usize;
-        next[c] = head[h];
-        head[h] = (c + 1) as u16;
+        chain.next[c] = chain.head[h];
+        chain.head[h] = (c + 1) as u16;
     }
 }
 
 // Gives the slots of all cells that the two chains have their numbers: a turn for each label below `many`.
-fn pass(
-    heada: &[u16],
-    nexta: &[u16],
+fn pass<const LABELS: usize, const CELLS: usize>(
+    a: &Chain<LABELS, CELLS>,
     froma: usize,
     toa: usize,
-    headb: &[u16],
-    nextb: &[u16],
+    b: &Chain<LABELS, CELLS>,
     fromb: usize,
     tob: usize,
     keys: &[u16],
@@ -104,13 +109,13 @@ fn pass(
     at: &mut [u16],
     out: &mut [u16],
 ) -> usize
-    requires { Passable heada.now nexta.now froma toa headb.now nextb.now fromb tob keys.now many at.old out.old }
-    ensures { Passed heada.now nexta.now froma toa headb.now nextb.now fromb tob keys.now many at.old out.old result out.new }
+    requires { Passable a.now.head a.now.next froma toa b.now.head b.now.next fromb tob keys.now many at.old out.old }
+    ensures { Passed a.now.head a.now.next froma toa b.now.head b.now.next fromb tob keys.now many at.old out.old result out.new }
 {
     let mut ids = 0;
     for r in 0..many {
-        let d = walk(heada, nexta, r, froma, toa, keys, ids, ids, at, out);
-        ids = walk(headb, nextb, r, fromb, tob, keys, ids, d, at, out);
+        let d = walk(a, r, froma, toa, keys, ids, ids, at, out);
+        ids = walk(b, r, fromb, tob, keys, ids, d, at, out);
     }
     ids
 }
@@ -143,46 +148,49 @@ fn thirds(labels: &[u16], n: usize, out: &mut [u16])
 }
 
 // Chains the first n cells by their labels at the positions 0, 1 and 2.
-fn chains(
+fn link_all<const LABELS: usize, const CELLS: usize>(
     labels: &[u16],
     n: usize,
-    h0: &mut [u16],
-    x0: &mut [u16],
-    h1: &mut [u16],
-    x1: &mut [u16],
-    h2: &mut [u16],
-    x2: &mut [u16],
+    chains: &mut Chains<LABELS, CELLS>,
 )
-    requires linkable { Linkable labels.now 0 n h0.old x0.old }
-    requires linkable_2 { Linkable labels.now 1 n h1.old x1.old }
-    requires linkable_3 { Linkable labels.now 2 n h2.old x2.old }
-    ensures linked { Linked (label_at labels.now 0) (length h0.old) n h0.new x0.new }
-    ensures linked_2 { Linked (label_at labels.now 1) (length h1.old) n h1.new x1.new }
-    ensures linked_3 { Linked (label_at labels.now 2) (length h2.old) n h2.new x2.new }
+    requires first { Linkable labels.now 0 n chains.old.first.head chains.old.first.next }
+    requires second { Linkable labels.now 1 n chains.old.second.head chains.old.second.next }
+    requires third { Linkable labels.now 2 n chains.old.third.head chains.old.third.next }
+    ensures first { Linked (label_at labels.now 0) (length chains.old.first.head) n chains.new.first.head chains.new.first.next }
+    ensures second { Linked (label_at labels.now 1) (length chains.old.second.head) n chains.new.second.head chains.new.second.next }
+    ensures third { Linked (label_at labels.now 2) (length chains.old.third.head) n chains.new.third.head chains.new.third.next }
 {
-    link(labels, 0, n, h0, x0);
-    link(labels, 1, n, h1, x1);
-    link(labels, 2, n, h2, x2);
+    link(labels, 0, n, &mut chains.first);
+    link(labels, 1, n, &mut chains.second);
+    link(labels, 2, n, &mut chains.third);
 }
 
 // Numbers the pairs: the second and third nodes of each slot.
-fn number_pairs(
+fn number_pairs<const LABELS: usize, const CELLS: usize>(
     labels: &[u16],
     n: usize,
     many: usize,
-    h1: &[u16],
-    x1: &[u16],
-    h2: &[u16],
-    x2: &[u16],
+    chains: &Chains<LABELS, CELLS>,
     keys: &mut [u16],
     at: &mut [u16],
     out: &mut [u16],
 )
-    requires { Pairable labels.now n many h1.now x1.now h2.now x2.now keys.old at.old out.old }
+    requires { Pairable labels.now n many chains.now.second.head chains.now.second.next chains.now.third.head chains.now.third.next keys.old at.old out.old }
     ensures { Slots n (SameFrom 1 labels.now) out.new }
 {
     thirds(labels, n, keys);
-    pass(h1, x1, 2, 4, h2, x2, 0, 2, keys, many, at, out);
+    pass(
+        &chains.second,
+        2,
+        4,
+        &chains.third,
+        0,
+        2,
+        keys,
+        many,
+        at,
+        out,
+    );
 }
 
 // Puts 0 everywhere.
@@ -193,77 +201,88 @@ pub(crate) fn clear(table: &mut [u16])
 }
 
 // Numbers the faces, by their lowest node and the pair of the others. The tables are new. `faces` has the third nodes first, and `same` the pairs.
-fn number_slots(
-    labels: &[u16],
+fn number_slots<const SLOTS: usize, const LABELS: usize, const CELLS: usize>(
     n: usize,
     many: usize,
-    h0: &[u16],
-    x0: &[u16],
-    h1: &[u16],
-    x1: &[u16],
-    h2: &[u16],
-    x2: &[u16],
-    at: &mut [u16],
-    faces: &mut [u16],
-    same: &mut [u16],
+    chains: &Chains<LABELS, CELLS>,
+    by_slot: &mut SlotTables<SLOTS, LABELS>,
 )
-    requires slotted { Slotted labels.now n many faces.old same.old }
-    requires label_chains { LabelChains labels.now n many h0.now x0.now h1.now x1.now h2.now x2.now }
-    requires fresh { Fresh (4 * n + 1) at.old }
-    ensures { Slots n (SameFrom 0 labels.now) faces.new }
+    requires slotted { Slotted by_slot.old.labels n many by_slot.old.faces by_slot.old.same }
+    requires label_chains { LabelsChained by_slot.old.labels n many chains.now }
+    requires fresh { Fresh (4 * n + 1) by_slot.old.at }
+    ensures told { Slots n (SameFrom 0 by_slot.old.labels) by_slot.new.faces }
+    ensures rooms { (length by_slot.new.at ≡ length by_slot.old.at) × (length by_slot.new.same ≡ length by_slot.old.same) }
 {
-    number_pairs(labels, n, many, h1, x1, h2, x2, faces, at, same);
-    clear(faces);
-    clear(at);
-    pass(h0, x0, 1, 4, h1, x1, 0, 1, same, many, at, faces);
+    number_pairs(
+        &by_slot.labels,
+        n,
+        many,
+        chains,
+        &mut by_slot.faces,
+        &mut by_slot.at,
+        &mut by_slot.same,
+    );
+    clear(&mut by_slot.faces);
+    clear(&mut by_slot.at);
+    pass(
+        &chains.first,
+        1,
+        4,
+        &chains.second,
+        0,
+        1,
+        &by_slot.same,
+        many,
+        &mut by_slot.at,
+        &mut by_slot.faces,
+    );
 }
 
 // Numbers the faces: numbers are equal exactly where the nodes are. The cells are chained by their nodes. The tables are new. Answers a bound of the labels.
-pub(crate) fn number_faces(
+pub(crate) fn number_faces<const SLOTS: usize, const LABELS: usize, const CELLS: usize>(
     cells: &[u16],
-    labels: &mut [u16],
-    ranks: &mut [u16],
-    h0: &mut [u16],
-    x0: &mut [u16],
-    h1: &mut [u16],
-    x1: &mut [u16],
-    h2: &mut [u16],
-    x2: &mut [u16],
-    at: &mut [u16],
-    faces: &mut [u16],
-    same: &mut [u16],
+    by_node: &mut NodeTables<LABELS, CELLS>,
+    by_slot: &mut SlotTables<SLOTS, LABELS>,
 ) -> usize
-    requires numerable { Numerable cells.now labels.old ranks.old faces.old same.old }
-    requires chain_tables { ChainTables (length cells.now / 4) h0.old x0.old h1.old x1.old h2.old x2.old }
-    requires fresh { Fresh (4 * (length cells.now / 4) + 1) at.old }
-    ensures slots { Slots (length cells.now / 4) (SameFrom 0 cells.now) faces.new }
-    ensures node_chains { NodeChains cells.now ranks.new h0.new x0.new h1.new x1.new h2.new x2.new }
-    ensures low_chains { LowChains cells.now result h0.new x0.new }
+    requires numerable { NumerableBy cells.now by_node.old by_slot.old }
+    requires chain_tables { ChainsNew (length cells.now / 4) by_node.old.chains }
+    requires fresh { Fresh (4 * (length cells.now / 4) + 1) by_slot.old.at }
+    ensures comparable { ComparableBy cells.now by_slot.new }
+    ensures node_chains { NodesChained cells.now by_node.new }
+    ensures low_chains { LowChained cells.now result by_node.new.chains.first }
 {
     let n = cells.len() / 4;
-    let m = label(cells, 4 * n, ranks, labels);
-    chains(labels, n, h0, x0, h1, x1, h2, x2);
-    number_slots(labels, n, m + 1, h0, x0, h1, x1, h2, x2, at, faces, same);
-    m + 1
+    let many = label(cells, 4 * n, &mut by_node.ranks, &mut by_slot.labels) + 1;
+    link_all(&by_slot.labels, n, &mut by_node.chains);
+    number_slots(n, many, &by_node.chains, by_slot);
+    many
 }
 
 // Numbers the cells, by their lowest node and their slot 0: numbers are equal exactly where the nodes are.
-pub(crate) fn number_cells(
+pub(crate) fn number_cells<const SLOTS: usize, const LABELS: usize, const CELLS: usize>(
     cells: &[u16],
     many: usize,
-    h0: &[u16],
-    x0: &[u16],
-    faces: &[u16],
-    at: &mut [u16],
-    same: &mut [u16],
+    chain: &Chain<LABELS, CELLS>,
+    by_slot: &mut SlotTables<SLOTS, LABELS>,
 )
-    requires low_chains { LowChains cells.now many h0.now x0.now }
-    requires comparable { Comparable cells.now faces.now at.old same.old }
-    ensures { Cells (length cells.now / 4) (SameNodes cells.now) same.new }
+    requires low_chains { LowChained cells.now many chain.now }
+    requires comparable { ComparableBy cells.now by_slot.old }
+    ensures { Cells (length cells.now / 4) (SameNodes cells.now) by_slot.new.same }
 {
-    clear(same);
-    clear(at);
-    pass(h0, x0, 0, 1, h0, x0, 0, 0, faces, many, at, same);
+    clear(&mut by_slot.same);
+    clear(&mut by_slot.at);
+    pass(
+        chain,
+        0,
+        1,
+        chain,
+        0,
+        0,
+        &by_slot.faces,
+        many,
+        &mut by_slot.at,
+        &mut by_slot.same,
+    );
 }
 
 // What seen has for the number key; from now on it has place j, one more.

@@ -1,10 +1,12 @@
 // The edges of the cells get their places in the sorted list: by runs of edges with one lower end, and chains of the cells with that node.
 ghost use Rattle.std.specs.Prelude.{◌≡◌, ◌+◌, ◌*◌, ◌<◌, ◌≤◌, get_or, set};
 ghost use Rattle.grid.specs.Grid.{cell_count};
-ghost use Rattle.grid.specs.work.Runs.{Fillable, RunFilled, Clearable, Blanked, Lays, InCell, FromNode, SidesPuttable, SidesWalkable, SidesWalked, Turnable, SidesPlaceable, SidesPlaced};
+ghost use Rattle.grid.specs.work.Held.{PlaceableBy, TurnableBy};
+ghost use Rattle.grid.specs.work.Runs.{Fillable, RunFilled, Clearable, Blanked, Lays, InCell, FromNode, SidesPuttable, SidesWalkable, SidesWalked, SidesPlaced};
 
 use crate::HIGHEST_NODE;
 use crate::cells::node_at;
+use crate::scratch::{Chain, NodeTables};
 use slots::high_end;
 
 // Puts x at place v, where there is one.
@@ -55,68 +57,55 @@ fn put_sides(cells: &[u16], c: usize, from: usize, to: usize, tab: &[u16], sides
 }
 
 // The same for the cells with the label r, along their chain.
-fn walk_sides(
+fn walk_sides<const LABELS: usize, const CELLS: usize>(
     cells: &[u16],
-    head: &[u16],
-    next: &[u16],
+    chain: &Chain<LABELS, CELLS>,
     r: usize,
     from: usize,
     to: usize,
     tab: &[u16],
     sides: &mut [u16],
 )
-    requires { SidesWalkable cells.now head.now next.now r from to tab.now sides.old }
-    ensures { SidesWalked cells.now head.now next.now r from to tab.now sides.old sides.new }
+    requires { SidesWalkable cells.now chain.now.head chain.now.next r from to tab.now sides.old }
+    ensures { SidesWalked cells.now chain.now.head chain.now.next r from to tab.now sides.old sides.new }
 {
     // Stays: a while, since the next place comes from the links and not from a range.
-    let mut j = head[r] as usize;
+    let mut j = chain.head[r] as usize;
     while 0 < j {
         let c = j - 1;
         put_sides(cells, c, from, to, tab, sides);
-        j = next[c] as usize;
+        j = chain.next[c] as usize;
     }
 }
 
 // The same for all edges of the cells with the lower end u, whose label is r.
-fn turn_sides(
+fn turn_sides<const LABELS: usize, const CELLS: usize>(
     cells: &[u16],
-    ranks: &[u16],
-    h0: &[u16],
-    x0: &[u16],
-    h1: &[u16],
-    x1: &[u16],
-    h2: &[u16],
-    x2: &[u16],
+    by_node: &NodeTables<LABELS, CELLS>,
     u: usize,
     tab: &[u16],
     sides: &mut [u16],
 )
-    requires { Turnable cells.now ranks.now h0.now x0.now h1.now x1.now h2.now x2.now u tab.now sides.old }
+    requires { TurnableBy cells.now by_node.now u tab.now sides.old }
     ensures { Lays (FromNode cells.now u) cells.now tab.now sides.old sides.new }
 {
-    let r = ranks[u] as usize;
-    walk_sides(cells, h0, x0, r, 0, 3, tab, sides);
-    walk_sides(cells, h1, x1, r, 3, 5, tab, sides);
-    walk_sides(cells, h2, x2, r, 5, 6, tab, sides);
+    let r = by_node.ranks[u] as usize;
+    walk_sides(cells, &by_node.chains.first, r, 0, 3, tab, sides);
+    walk_sides(cells, &by_node.chains.second, r, 3, 5, tab, sides);
+    walk_sides(cells, &by_node.chains.third, r, 5, 6, tab, sides);
 }
 
 // Gives each edge of each cell one more than its place among the first m edges, but no more than 6 to a cell and one; 0 where it is not listed. Edges above
 // the highest node are at the end of the list, and no cell has one.
-pub(crate) fn place_sides(
+pub(crate) fn place_sides<const LABELS: usize, const CELLS: usize>(
     cells: &[u16],
     edges: &[u16],
     m: usize,
-    ranks: &[u16],
-    h0: &[u16],
-    x0: &[u16],
-    h1: &[u16],
-    x1: &[u16],
-    h2: &[u16],
-    x2: &[u16],
+    by_node: &NodeTables<LABELS, CELLS>,
     tab: &mut [u16],
     sides: &mut [u16],
 )
-    requires { SidesPlaceable cells.now edges.now m ranks.now h0.now x0.now h1.now x1.now h2.now x2.now tab.old sides.old }
+    requires { PlaceableBy cells.now edges.now m by_node.now tab.old sides.old }
     ensures { SidesPlaced cells.now edges.now m sides.new }
 {
     let cap = 6 * (cells.len() / 4);
@@ -128,7 +117,7 @@ pub(crate) fn place_sides(
             return;
         }
         let f = fill_run(edges, m, cap, e, tab);
-        turn_sides(cells, ranks, h0, x0, h1, x1, h2, x2, u, tab, sides);
+        turn_sides(cells, by_node, u, tab, sides);
         clear_run(edges, e, f, tab);
         e = f;
     }

@@ -10,7 +10,7 @@ use Rattle.grid.proofs.Working.{blank_tables}
 use Rattle.grid.proofs.lay.Goals as goal
 
 pub all_rows-requires : goal.all_rows-requires
-all_rows-requires c = record { edges_len = λ e. (lists_fine _ _ _ (sym c.row_2-wrong.ensures ∙ e)).0; blank = λ h. blank_tables _ 2048 h }
+all_rows-requires c = record { edges_len = λ e. (lists_fine _ _ _ (sym c.row_2-wrong.ensures ∙ e)).0; blank = λ h. blank_tables _ 8192 12288 (omega arith) (omega arith) }
 
 pub returns-in_err-crossings : goal.returns-in_err-crossings
 returns-in_err-crossings c = let G = lent c.args.grid in

@@ -5,7 +5,7 @@ use borrow.Author.Count.{below_more, below_none}
 use Rattle.counting.proofs.Search.{found_end, found_hit}
 use Rattle.grid.proofs.Blocks.{block_found, block_none}
 use Rattle.grid.specs.Grid.{cell_count}
-use Rattle.grid.proofs.Laying.{tallying_end, tallying_few, tallying_lt, tallying_more, tallying_room, tallying_start}
+use Rattle.grid.proofs.Laying.{tallying_end, tallying_few, tallying_more, tallying_start}
 use Rattle.grid.proofs.Sides.{blank_first}
 use Rattle.grid.proofs.edges.row_7.Goals as goal
 

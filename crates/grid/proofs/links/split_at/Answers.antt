@@ -1,6 +1,6 @@
 use mathlib.Core.Path.{refl, sym}
 use native.Mathlib.Omega.{arith}
-use Rattle.grid.proofs.Marks.{both_same, first_same, lower_on, may_spread, may_spread_first, met_all, met_first_le, met_le, other_apart, split_counted, spread_both, spread_whole, top_within}
+use Rattle.grid.proofs.Marks.{first_same, lower_on, may_spread, may_spread_first, met_all, met_first_le, met_le, other_apart, split_counted, spread_both, spread_whole, top_within}
 use Rattle.grid.proofs.links.split_at.Goals as goal
 
 pub bounds-marks-c : goal.bounds-marks-c

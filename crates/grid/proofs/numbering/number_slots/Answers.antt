@@ -1,20 +1,21 @@
+use native.Mathlib.Omega.{arith}
 use mathlib.Core.Path.{◌∙◌}
 use Rattle.grid.proofs.Tellings.{faces_passable, faces_tell, slots_pairable, slotted_faces}
 use Rattle.grid.proofs.Working.{fresh_again}
 use Rattle.grid.proofs.numbering.number_slots.Goals as goal
 
 pub number_pairs-requires : goal.number_pairs-requires
-number_pairs-requires c = let S = c.requires.slotted in
+number_pairs-requires g c = let S = c.requires.slotted in
     let C = c.requires.label_chains in
-    slots_pairable S _ _ _ _ _ _ _ C.by1 C.by2 S.faces_room c.requires.fresh (record { room = S.same_room; blank = S.same_blank })
+    (omega (arith, c.well_formed), slots_pairable S _ _ _ _ _ _ _ C.by1 C.by2 S.faces_room c.requires.fresh (record { room = S.same_room; blank = S.same_blank }))
 
 pub pass-requires : goal.pass-requires
-pass-requires c = let C = c.requires.label_chains in
+pass-requires g c = let C = c.requires.label_chains in
     let S = slotted_faces c.requires.slotted (c.clear.auto.table ∙ c.number_pairs.auto.keys) c.clear.ensures in
-    faces_passable S _ _ _ _ _ _ C.by0 C.by1 c.number_pairs.ensures (fresh_again c.requires.fresh.room (c.clear-2.auto.table ∙ c.number_pairs.auto.at) c.clear-2.ensures)
+    (omega (arith, c.well_formed), faces_passable S _ _ _ _ _ _ C.by0 C.by1 c.number_pairs.ensures (fresh_again c.requires.fresh.room (c.clear-2.auto.table ∙ c.number_pairs.auto.at) c.clear-2.ensures))
 
 pub returns : goal.returns
-returns c = let C = c.requires.label_chains in
+returns g c = let C = c.requires.label_chains in
     let S = slotted_faces c.requires.slotted (c.clear.auto.table ∙ c.number_pairs.auto.keys) c.clear.ensures in
     let A = fresh_again c.requires.fresh.room (c.clear-2.auto.table ∙ c.number_pairs.auto.at) c.clear-2.ensures in
-    faces_tell S _ _ _ _ _ _ C.by0 C.by1 c.number_pairs.ensures A _ _ c.pass.ensures
+    record { told = faces_tell S _ _ _ _ _ _ C.by0 C.by1 c.number_pairs.ensures A _ _ c.pass.ensures; rooms = (omega arith, c.number_pairs.auto.out) }

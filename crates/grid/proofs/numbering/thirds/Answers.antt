@@ -1,7 +1,6 @@
-use mathlib.Core.Path.{◌≡◌, ap}
+use mathlib.Core.Path.{◌≡◌}
 use native.Mathlib.Omega.{arith}
-use lib.ListN.{length, length-set}
-use Rattle.counting.proofs.Stored.{filled_none, length_filled}
+use Rattle.counting.proofs.Stored.{filled_none}
 use Rattle.grid.proofs.Tellings.{thirds_more}
 use Rattle.grid.proofs.numbering.thirds.Goals as goal
 

@@ -4,25 +4,25 @@ use Rattle.grid.proofs.Places.{walking_empty, walking_end, walking_less, walking
 use Rattle.grid.proofs.numbering.walk.Goals as goal
 
 pub returns-then-to-from : goal.returns-then-to-from
-returns-then-to-from c = walking_empty c.if-to-from.true
+returns-then-to-from g c = walking_empty c.if-to-from.true
 
 pub loop-j-init : goal.loop-j-init
-loop-j-init c = walking_start _ refl
+loop-j-init g c = walking_start _ refl
 
 pub numbers-m-requires : goal.numbers-m-requires
-numbers-m-requires c = let p = c.requires in record { from_le_to = p.ordered; to_bound = p.slots; ready = walking_ready c.loop-j.invariant (omega arith) p }
+numbers-m-requires g c = let p = c.requires in record { from_le_to = p.ordered; to_bound = p.slots; ready = walking_ready c.loop-j.invariant (omega arith) p }
 
-pub offset_bounds-next-c : goal.offset_bounds-next-c
-offset_bounds-next-c c = omega (arith, walking_lt c.loop-j.invariant (omega arith) c.requires)
+pub offset_bounds-chain-c : goal.offset_bounds-chain-c
+offset_bounds-chain-c g c = omega (arith, walking_lt c.loop-j.invariant (omega arith) c.requires, c.well_formed)
 
-pub bounds-next-c : goal.bounds-next-c
-bounds-next-c c = walking_lt c.loop-j.invariant (omega arith) c.requires
+pub bounds-chain-c : goal.bounds-chain-c
+bounds-chain-c g c = omega (arith, walking_lt c.loop-j.invariant (omega arith) c.requires, c.well_formed)
 
 pub loop-j-smaller : goal.loop-j-smaller
-loop-j-smaller c = omega (arith, walking_less c.loop-j.invariant (omega arith) c.requires)
+loop-j-smaller g c = omega (arith, walking_less c.loop-j.invariant (omega arith) c.requires)
 
 pub loop-j-preserved : goal.loop-j-preserved
-loop-j-preserved c = walking_more c.loop-j.invariant (omega arith) c.numbers-m.ensures _ refl
+loop-j-preserved g c = walking_more c.loop-j.invariant (omega arith) c.numbers-m.ensures _ refl
 
 pub returns : goal.returns
-returns c = walking_end c.loop-j.invariant (omega arith)
+returns g c = walking_end c.loop-j.invariant (omega arith)

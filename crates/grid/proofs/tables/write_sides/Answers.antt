@@ -1,9 +1,9 @@
 use Prim.Native.Nat.{ℕ, ◌-◌}
 use mathlib.Core.Path.{◌∙◌, ◌≡◌, ap, refl}
 use native.Mathlib.Omega.{arith}
-use lib.ListN.{get_or, length}
+use lib.ListN.{get_or}
 use Rattle.counting.specs.Stored.{filled}
-use Rattle.counting.proofs.Stored.{filled_more, filled_none, length_filled}
+use Rattle.counting.proofs.Stored.{filled_more, filled_none}
 use Rattle.grid.proofs.tables.write_sides.Goals as goal
 
 pub loop-j-init : goal.loop-j-init

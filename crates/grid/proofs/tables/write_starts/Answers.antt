@@ -4,7 +4,7 @@ use native.Mathlib.Omega.{arith}
 use lib.ListN.{length}
 use Rattle.counting.specs.Stored.{filled}
 use Rattle.counting.proofs.Tables.{table_filled}
-use Rattle.counting.proofs.Stored.{filled_more, length_filled}
+use Rattle.counting.proofs.Stored.{filled_more}
 use Rattle.grid.specs.Grid.{start}
 use Rattle.grid.proofs.Crossings.{start_mono, start_next}
 use Rattle.grid.proofs.tables.write_starts.Goals as goal
