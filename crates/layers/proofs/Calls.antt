@@ -1,4 +1,5 @@
 -- The two calls, where they are refused and where they are drawn.
+use Rattle.std.specs.Prelude.{Some, None, Ok, Err}
 use Prim.Native.Nat.{ℕ, ◌+◌, ◌*◌, ◌/◌, ◌≤◌, ◌<◌}
 use mathlib.Core.Path.{◌≡◌, refl, sym, ap, ap₂, ◌∙◌}
 use mathlib.Core.Bool.{Bool, true, false}
@@ -7,14 +8,16 @@ use native.Mathlib.Omega.{arith}
 use lib.ListN.{length, get_or, length-map}
 use lib.Dec.{ltb}
 use borrow.Author.Tests.{lt-ltb, le-ltb, ltb-true, ltb-false}
-use Rattle.answer.specs.Answer.{result_of, refusal, refused}
+use Rattle.answer.specs.Answer.{result_of, refusal}
+use Rattle.answer.specs.Refusal.{refusal_numbers}
+use Rattle.answer.specs.declared.Refusal.{Refusal}
 use Rattle.answer.specs.Rows.{or_refuse, Clear}
 use Rattle.counting.specs.Pick.{pick}
-use Rattle.counting.specs.Search.{first, some}
+use Rattle.counting.specs.Search.{first, some, found}
 use Rattle.counting.specs.Lists.{over}
 use Rattle.counting.specs.Stored.{stored_in}
 use Rattle.counting.specs.work.Stored.{Stored}
-use Rattle.counting.proofs.Search.{first_is, first_none, some_found, none_some}
+use Rattle.counting.proofs.Search.{first_is, first_none, found_first, found_none, some_found, none_some}
 use Rattle.counting.proofs.Lists.{gather_over}
 use Rattle.counting.proofs.Stored.{stored_as, stored_fits, stored_not, stored_room}
 use Rattle.cell.specs.Words.{word_count, words, all_words}
@@ -22,8 +25,6 @@ use Rattle.cell.proofs.Storing.{length_all}
 use Rattle.grid.specs.Grid.{Grid, cell_count}
 use Rattle.slots.specs.Limits.{most_slots}
 use Rattle.slots.specs.work.Limits.{most_edges}
-use Rattle.grid.specs.declared.Checked.{Checked}
-use Rattle.grid.specs.declared.Checked.TheVariants.{Crossings, Refused}
 use Rattle.grid.specs.Check.{check_numbers}
 use Rattle.grid.specs.Rows.{grid_answer, accepts}
 use Rattle.grid.specs.work.Tables.{Laid}
@@ -50,53 +51,51 @@ use Rattle.layers.proofs.Joined.{cuts_cut, few_cuts, joined_triangles, joined-sp
 -- THE CHECK OF THE WHOLE
 
 module _ (G : Grid) where
-  module _ (r : Checked) (row place : ℕ) (e : r ≡ Refused row place) (q : check_numbers r ≡ grid_answer G) where
-    is_refusal : check_numbers (Refused row place) ≡ grid_answer G
-    is_refusal = ap check_numbers (sym e) ∙ q
-
+  module _ (r : Refusal) (q : check_numbers (Err r) ≡ grid_answer G) where
     keeps : accepts G ≡ false
-    keeps = refused_keeps G row place is_refusal
+    keeps = refused_keeps G r q
 
-    pub refused_run : (cuts : List ℕ) (run : ℕ) (area : List ℕ) → RunDone G cuts run area area (refused row place)
+    pub refused_run : (cuts : List ℕ) (run : ℕ) (area : List ℕ) → RunDone G cuts run area area (refusal_numbers r)
     unfolding run_answer run_area cuts_answer cuts_accepted
-    refused_run cuts run area = record { answered = rw keeps is_refusal; area = rw keeps }
+    refused_run cuts run area = record { answered = rw keeps q; area = rw keeps }
 
-    pub refused_joined : (cuts area : List ℕ) → JoinedDone G cuts area area (refused row place)
+    pub refused_joined : (cuts area : List ℕ) → JoinedDone G cuts area area (refusal_numbers r)
     unfolding joined_answer joined_area cuts_answer cuts_accepted
-    refused_joined cuts area = record { answered = rw keeps is_refusal; area = rw keeps; undivided = joined_is_mesh; demand = demand3 }
+    refused_joined cuts area = record { answered = rw keeps q; area = rw keeps; undivided = joined_is_mesh; demand = demand3 }
 
-  pub tables : (r : Checked) (n : ℕ) → r ≡ Crossings n → check_numbers r ≡ grid_answer G → (names₀ sides₀ names sides : List ℕ) → length names₀ ≡ most_slots → length sides₀ ≡ most_edges
+  pub tables : (n : ℕ) → check_numbers (Ok n) ≡ grid_answer G → (names₀ sides₀ names sides : List ℕ) → length names₀ ≡ most_slots → length sides₀ ≡ most_edges
       → Laid G names₀ sides₀ names sides → Tables G names sides
-  tables r n e q names₀ sides₀ names sides ln ls o =
-      let t = mesh.tabled G names₀ sides₀ names sides (told_sound G r n e q) (told_accepts G r n e q) ln ls o in
-      record { accepted = told_accepts G r n e q; sound = t.sound; name = t.name; edge = t.edge }
+  tables n q names₀ sides₀ names sides ln ls o =
+      let accepted = told_accepts G (Ok n) n refl q in
+      let t = mesh.tabled G names₀ sides₀ names sides (told_sound G (Ok n) n refl q) accepted ln ls o in
+      record { accepted = accepted; sound = t.sound; name = t.name; edge = t.edge }
 
 -- ROOM
 
-module _ (room len : ℕ) {n : ℕ} (is : n ≡ lacking_in room len) where
-  pub lacking_some : (n ≡ 0 → ⊥) → (n ≡ len) × (room < word_count * len)
+module _ (room len : ℕ) where
+  pub lacking_some : {n : ℕ} → Some n ≡ lacking_in room len → (n ≡ len) × (room < word_count * len)
   unfolding lacking_in
-  lacking_some h = go (ltb room (word_count * len)) refl
+  lacking_some {n} is = go (ltb room (word_count * len)) refl is
     where
-      go : (b : Bool) → ltb room (word_count * len) ≡ b → (n ≡ len) × (room < word_count * len)
-      go true e = (is ∙ ap (λ b. pick b len 0) e, ltb-true room (word_count * len) e)
-      go false e = absurd (h (is ∙ ap (λ b. pick b len 0) e))
+      go : (b : Bool) → ltb room (word_count * len) ≡ b → Some n ≡ pick b (Some len) None → (n ≡ len) × (room < word_count * len)
+      go true e q = let z : n ≡ len = cc in (z, ltb-true room (word_count * len) e)
+      go false e q = absurd cc
 
-  pub lacking_none : n ≡ 0 → word_count * len ≤ room
+  pub lacking_none : None ≡ lacking_in room len → word_count * len ≤ room
   unfolding lacking_in
-  lacking_none z = go (ltb room (word_count * len)) refl
+  lacking_none is = go (ltb room (word_count * len)) refl is
     where
-      go : (b : Bool) → ltb room (word_count * len) ≡ b → word_count * len ≤ room
-      go true e = absurd (omega (arith, is ∙ ap (λ b. pick b len 0) e, z, ltb-true room (word_count * len) e))
-      go false e = ltb-false room (word_count * len) e
+      go : (b : Bool) → ltb room (word_count * len) ≡ b → None ≡ pick b (Some len) None → word_count * len ≤ room
+      go true e q = absurd cc
+      go false e q = ltb-false room (word_count * len) e
 
-pub lacks : (room len : ℕ) → room < word_count * len → len ≡ lacking_in room len
-unfolding lacking_in
-lacks room len h = rw (lt-ltb room (word_count * len) h)
+  pub lacks : room < word_count * len → Some len ≡ lacking_in room len
+  unfolding lacking_in
+  lacks h = rw (lt-ltb room (word_count * len) h)
 
-pub lacks_none : (room len : ℕ) → word_count * len ≤ room → 0 ≡ lacking_in room len
-unfolding lacking_in
-lacks_none room len h = rw (le-ltb room (word_count * len) h)
+  pub lacks_none : word_count * len ≤ room → None ≡ lacking_in room len
+  unfolding lacking_in
+  lacks_none h = rw (le-ltb room (word_count * len) h)
 
 -- no more triangles are drawn than the sums say
 pub few_drawn : (cells counts names sides starts : List ℕ) {crossings splits more : ℕ} → AreSums counts sides (drawn_cells cells) crossings splits more
@@ -106,20 +105,20 @@ few_drawn cells counts names sides starts S =
 
 -- THE CUTS
 
-module _ {G : Grid} {names sides : List ℕ} (T : Tables G names sides) (cuts : List ℕ) (b : ℕ) (is : b ≡ first (bad_cut (cell_count G.cells) cuts) (length cuts)) where
+module _ {G : Grid} {names sides : List ℕ} (T : Tables G names sides) (cuts : List ℕ) where
   abbrev n : ℕ
   n = cell_count G.cells
 
-  module _ (h : b < length cuts) where
-    bad : first (bad_cut n cuts) (length cuts) < length cuts
-    bad = omega arith
+  module _ {b : ℕ} (is : Some b ≡ found (bad_cut (cell_count G.cells) cuts) (length cuts)) where
+    bad : (b ≡ first (bad_cut n cuts) (length cuts)) × (b < length cuts)
+    bad = found_first (bad_cut n cuts) (length cuts) b is
 
     bad_some : some (bad_cut n cuts) (length cuts) ≡ true
-    bad_some = some_found (bad_cut n cuts) (length cuts) (first (bad_cut n cuts) (length cuts)) bad (first_is (bad_cut n cuts) (length cuts) bad)
+    bad_some = some_found (bad_cut n cuts) (length cuts) b bad.1 (ap (bad_cut n cuts) bad.0 ∙ first_is (bad_cut n cuts) (length cuts) (omega (arith, bad.0, bad.1)))
 
     refuses : (rest : List ℕ) → refusal 25 b ≡ cuts_answer G cuts rest
     unfolding cuts_answer or_refuse
-    refuses rest = rw (T.accepted, lt-ltb (first (bad_cut n cuts) (length cuts)) (length cuts) bad) (ap (refusal 25) is)
+    refuses rest = rw (T.accepted, lt-ltb (first (bad_cut n cuts) (length cuts)) (length cuts) (omega (arith, bad.0, bad.1))) (ap (refusal 25) bad.0)
 
     pub bad_run : (run : ℕ) (area : List ℕ) → RunDone G cuts run area area (refusal 25 b)
     unfolding run_answer run_area cuts_accepted
@@ -129,13 +128,16 @@ module _ {G : Grid} {names sides : List ℕ} (T : Tables G names sides) (cuts : 
     unfolding joined_answer joined_area cuts_accepted
     bad_joined area = record { answered = refuses _; area = rw (T.accepted, bad_some); undivided = joined_is_mesh; demand = demand3 }
 
-  module _ (h : length cuts ≤ b) where
+  module _ (fine : None ≡ found (bad_cut (cell_count G.cells) cuts) (length cuts)) where
+    none : first (bad_cut n cuts) (length cuts) ≡ length cuts
+    none = found_none (bad_cut n cuts) (length cuts) fine
+
     pub clear : Clear (cut_row G cuts)
-    clear = first_none (bad_cut n cuts) (length cuts) (omega arith)
+    clear = first_none (bad_cut n cuts) (length cuts) (omega (arith, none))
 
     passes : (rest : List ℕ) → cuts_answer G cuts rest ≡ rest
     unfolding cuts_answer or_refuse
-    passes rest = rw (T.accepted, le-ltb (first (bad_cut n cuts) (length cuts)) (length cuts) (omega arith))
+    passes rest = rw (T.accepted, le-ltb (first (bad_cut n cuts) (length cuts)) (length cuts) (omega (arith, none)))
 
     cuts_pass : cuts_accepted G cuts ≡ true
     unfolding cuts_accepted
@@ -204,16 +206,16 @@ module _ {G : Grid} {names sides : List ℕ} (T : Tables G names sides) (cuts : 
     unfolding joined_answer joined_area
     joins before after answer q a = record { answered = q ∙ sym (passes _); area = rw cuts_pass a; undivided = joined_is_mesh; demand = demand3 }
 
-    module _ (before : List ℕ) {lack : ℕ} (known : lack ≡ lacking_in (length before) (length (table_drawn G.cells G.counts names sides G.starts))) where
-      pub joined_short : (lack ≡ 0 → ⊥) → JoinedDone G cuts before before (refusal 12 lack)
-      joined_short h =
-          let (e, l) = lacking_some (length before) drawn known h in
+    module _ (before : List ℕ) where
+      pub joined_short : {lack : ℕ} → Some lack ≡ lacking_in (length before) (length (table_drawn G.cells G.counts names sides G.starts)) → JoinedDone G cuts before before (refusal 12 lack)
+      joined_short {lack} known =
+          let (e, l) = lacking_some (length before) drawn known in
           joins before before (refusal 12 lack) (ap (refusal 12) (e ∙ all_many) ∙ answer_short (joined_mesh G cuts) (joined_splits G cuts) (length before) (omega (arith, l, all_many)))
           (stored_not before 0 (all_words (joined_mesh G cuts)) (omega (arith, l, all_many, length_all (joined_mesh G cuts)))).0
 
-      module _ (z : lack ≡ 0) where
+      module _ (known : None ≡ lacking_in (length before) (length (table_drawn G.cells G.counts names sides G.starts))) where
         fits : word_count * length (joined_mesh G cuts) ≤ length before
-        fits = omega (arith, lacking_none (length before) drawn known z, all_many)
+        fits = omega (arith, lacking_none (length before) drawn known, all_many)
 
         pub joinable : Joinable G names sides cuts (length before)
         joinable = record { tables = T; clear = clear; fits = fits }
@@ -229,10 +231,13 @@ module _ {G : Grid} {names sides : List ℕ} (T : Tables G names sides) (cuts : 
 
 -- RUN AFTER RUN
 
+-- the words of run r
+abbrev pub words_of : Grid → List ℕ → ℕ → List ℕ
+words_of G cuts r = all_words (run_renamed G (run_start cuts r) (run_size (cell_count G.cells) cuts r))
+
 module _ {G : Grid} {names sides cuts : List ℕ} {room : ℕ} (J : Joinable G names sides cuts room) where
-  -- the words of run r
-  abbrev pub run_words : ℕ → List ℕ
-  run_words r = all_words (run_renamed G (run_start cuts r) (run_size (cell_count G.cells) cuts r))
+  abbrev run_words : ℕ → List ℕ
+  run_words = words_of G cuts
 
   all-words : all_words (joined_mesh G cuts) ≡ over run_words (run_count cuts) 0
   unfolding joined_mesh
@@ -253,7 +258,7 @@ module _ {G : Grid} {names sides cuts : List ℕ} {room : ℕ} (J : Joinable G n
           run = record { some_cell = omega (arith, L.some_cell r (omega arith)); within = omega (arith, L.some_cell r (omega arith), L.within r (omega arith)) };
         }
 
-    pub next_words : all_words (run_renamed G from size) ≡ run_words r
+    pub next_words : all_words (run_renamed G from size) ≡ words_of G cuts r
     next_words = ap₂ (λ x y. all_words (run_renamed G x y)) e f
 
     long : length (run_words r) ≡ word_count * length (run_triangles G from size)
@@ -262,7 +267,7 @@ module _ {G : Grid} {names sides cuts : List ℕ} {room : ℕ} (J : Joinable G n
         ap length (sym next_words) ∙ length_all (run_renamed G from size)
         ∙ ap (λ n. word_count * n) (length-map (run_triangles G from size) (renamed (keep_inner (into_whole G from size))))
 
-    module _ {was area : List ℕ} {i m : ℕ} (S : Stored was 0 (over run_words r 0) area i) (lw : length was ≡ room) (u : List ℕ) (below : (e : ℕ) → get_or u e 0 < m) where
+    module _ {was area : List ℕ} {i m : ℕ} (S : Stored was 0 (over (words_of G cuts) r 0) area i) (lw : length was ≡ room) (u : List ℕ) (below : (e : ℕ) → get_or u e 0 < m) where
       pub next_joinable : JoinableRun G names sides from size m i (length area) u
       next_joinable = record {
         run_of = next_run;
@@ -270,5 +275,5 @@ module _ {G : Grid} {names sides cuts : List ℕ} {room : ℕ} (J : Joinable G n
         below = below;
       }
 
-  pub all_joined : {was area : List ℕ} {i r : ℕ} → Stored was 0 (over run_words r 0) area i → r ≡ run_count cuts → Stored was 0 (all_words (joined_mesh G cuts)) area i
+  pub all_joined : {was area : List ℕ} {i r : ℕ} → Stored was 0 (over (words_of G cuts) r 0) area i → r ≡ run_count cuts → Stored was 0 (all_words (joined_mesh G cuts)) area i
   all_joined S e = stored_as S (ap (λ n. over run_words n 0) e ∙ sym all-words) refl

@@ -2,7 +2,7 @@
 use Prim.Native.Nat.{ℕ, zero, suc, ◌+◌, ◌-◌, ◌*◌, ◌/◌, ◌%◌, ◌≤◌, ◌<◌}
 use mathlib.Core.Path.{◌≡◌, refl, sym, ap, ◌∙◌}
 use mathlib.Core.Bool.{Bool, true, false, not}
-use mathlib.Core.Logic.{inl}
+use mathlib.Core.Logic.{◌⊎◌, inl, ⊎_elim}
 use mathlib.Core.List.{List, [], ◌∷◌}
 use native.Mathlib.Nat.{zero-add, not-suc-le-zero}
 use native.Mathlib.Numerals.{add-one}
@@ -31,13 +31,16 @@ use Rattle.layers.specs.work.Work.{name_from, side_from, used_by, block_size, bl
 -- CUTS
 
 module _ (n : ℕ) (cuts : List ℕ) (i : ℕ) where
-  pub bad_low : cut_at cuts i ≤ run_start cuts i → bad_cut n cuts i ≡ true
+  bad_low : cut_at cuts i ≤ run_start cuts i → bad_cut n cuts i ≡ true
   unfolding bad_cut
   bad_low h = or_left (not (ltb (run_start cuts i) (cut_at cuts i))) (not (ltb (cut_at cuts i) n)) (ap not (le-ltb (run_start cuts i) (cut_at cuts i) h))
 
-  pub bad_high : n ≤ cut_at cuts i → bad_cut n cuts i ≡ true
+  bad_high : n ≤ cut_at cuts i → bad_cut n cuts i ≡ true
   unfolding bad_cut
   bad_high h = or_right (not (ltb (run_start cuts i) (cut_at cuts i))) (not (ltb (cut_at cuts i) n)) (ap not (le-ltb (cut_at cuts i) n h))
+
+  pub bad_cut_at : {before : ℕ} → before ≡ run_start cuts i → (cut_at cuts i ≤ before) ⊎ (n ≤ cut_at cuts i) → bad_cut n cuts i ≡ true
+  bad_cut_at e = ⊎_elim (λ (h : _). bad_low (omega (arith, e))) bad_high
 
   pub not_bad : run_start cuts i < cut_at cuts i → cut_at cuts i < n → bad_cut n cuts i ≡ false
   unfolding bad_cut
@@ -206,6 +209,31 @@ module _ (counts used : List ℕ) (m : ℕ) where
                 ∙ values_at (λ i. marked_start counts used m (at + i)) (end - at) (e - at) 0 (omega arith) ∙ ap (marked_start counts used m) (sym i))
           ];
         }
+
+-- how far the starts are written: their sum, and the starts of the marked edges before `end`
+pub record SummedTo (counts used : List ℕ) (m : ℕ) (before : List ℕ) (end s : ℕ) (starts : List ℕ) : Type 0 where
+  pub sum : s ≡ marked_start counts used m end
+  pub small : s ≤ 65535 * end
+  pub starts_are : StartsSummed counts used m end before starts
+
+module _ (counts used : List ℕ) (m : ℕ) where
+  pub summed_none : (starts : List ℕ) (end : ℕ) → end ≡ 0 → SummedTo counts used m starts end 0 starts
+  summed_none starts end e = rw e (record { sum = sum_none counts used m; small = omega arith; starts_are = starts_none counts used m starts })
+
+  module _ {before starts : List ℕ} {x s : ℕ} (S : SummedTo counts used m before x s starts) (at end : ℕ) (e : x ≡ at) (h : at ≤ end) where
+    here : SummedTo counts used m before at s starts
+    here = rw (← e) S
+
+    pub summed_skip : ((d : ℕ) → at ≤ d → d < end → eqb (get_or used d 0) m ≡ false) → SummedTo counts used m before end s starts
+    summed_skip none = record {
+      sum = here.sum ∙ sum_skip counts used m at end h none;
+      small = omega (arith, here.small);
+      starts_are = starts_skip counts used m here.starts_are none;
+    }
+
+    pub summed_more : {r : ℕ} {after : List ℕ} → end ≤ length starts → (r ≡ marked_start counts used m end) × (r ≤ 65535 * end)
+        → after ≡ sets starts at (values (λ i. marked_start counts used m (at + i)) (end - at)) → SummedTo counts used m before end r after
+    summed_more k v w = record { sum = v.0; small = v.1; starts_are = starts_more counts used m here.starts_are h k w }
 
 -- the tables of a run
 pub copied_run : (names sides ownNames ownSides : List ℕ) (from size : ℕ) → from + size ≤ most_cells → length ownNames ≡ most_slots → length ownSides ≡ most_edges → {names' sides' : List ℕ}

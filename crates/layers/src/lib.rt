@@ -1,21 +1,24 @@
 // A grid cut into runs of cells (02, W13): the mesh of one run as a grid of its own, and the meshes of all runs joined in the names of the whole.
 #![tactic(auto)]
 
-ghost use Rattle.std.specs.Prelude.{◌≡◌, List, ℕ, ◌≤◌, ◌<◌, length, get_or};
+ghost use Rattle.std.specs.Prelude.{◌≡◌, ℕ, ◌≤◌, ◌<◌, length, get_or};
 ghost use Rattle.counting.specs.Stored.{stored_in};
 ghost use Rattle.counting.specs.work.Stored.{Stored};
 ghost use Rattle.cell.specs.Words.{all_words};
-ghost use Rattle.grid.specs.Grid.{grid_of};
-ghost use Rattle.split.specs.work.Table.{most_drawn, table_drawn, table_splits};
+ghost use Rattle.grid.specs.Lent.{lent};
+ghost use Rattle.split.specs.work.Table.{most_drawn};
+ghost use Rattle.split.specs.work.Tables.{triangles_drawn, splits_made};
 ghost use Rattle.mesh.specs.Numbers.{mesh_numbers};
 ghost use Rattle.layers.specs.Runs.{run_renamed};
 ghost use Rattle.layers.specs.Cuts.{joined_mesh};
 ghost use Rattle.layers.specs.Done.{RunDone, JoinedDone};
-ghost use Rattle.layers.specs.work.Work.{Tables, SomeTables, lacking_in, RunOf, RunDrawn, JoinableRun, Joinable};
+ghost use Rattle.layers.specs.work.Work.{lacking_in, RunDrawn};
+ghost use Rattle.layers.specs.work.Whole.{WholeTabled, WholeRun, WholeJoinableRun, WholeJoinable};
 
-use cell::WORD_COUNT;
-use grid::{Checked, MOST_EDGES, MOST_SLOTS};
-use mesh::Meshed;
+use answer::{Refusal, Row};
+use cell::{Tables, WORD_COUNT};
+use grid::{Grid, MOST_EDGES, MOST_SLOTS};
+use mesh::Mesh;
 use split::DrawnSums;
 
 mod cuts;
@@ -24,6 +27,14 @@ mod words;
 
 use tables::MARKS;
 use words::CROSSINGS;
+
+// The whole grid as it is lent, with the names of its faces and the edges of its sides.
+#[derive(Clone, Copy)]
+struct Whole<'a> {
+    grid: Grid<'a>,
+    names: &'a [u16; MOST_SLOTS],
+    sides: &'a [u16; MOST_EDGES],
+}
 
 // A run of cells: the first of them, how many they are, and what their edges are marked with.
 #[derive(Clone, Copy)]
@@ -35,252 +46,202 @@ struct Span {
 
 // Writes the mesh of a run, in its own names, from the front of the area on where it has room there, and answers how many triangles and splits it has.
 // 112 KB of stack for the run's tables, besides what `split::draw` keeps.
-fn draw_run(
-    cells: &[u16],
-    counts: &[u16],
-    starts: &[u32],
-    names: &[u16; MOST_SLOTS],
-    sides: &[u16; MOST_EDGES],
-    run: Span,
-    area: &mut [u32],
-) -> DrawnSums
-    requires { ((edges : List ℕ) × RunOf (grid_of cells.now edges counts.now starts.now) names.now sides.now run.from run.size) × (0 < run.mark) }
-    ensures { (edges : List ℕ) → RunOf (grid_of cells.now edges counts.now starts.now) names.now sides.now run.from run.size → RunDrawn (grid_of cells.now edges counts.now starts.now) run.from run.size area.old area.new result.triangles result.splits }
+fn draw_run(whole: Whole, run: Span, area: &mut [u32]) -> DrawnSums
+    requires run { WholeRun whole run.from run.size }
+    requires mark { 0 < run.mark }
+    ensures { RunDrawn (lent whole.entry.grid) run.from run.size area.old area.new result.triangles result.splits }
 {
-    let mut own_names = [0u16; MOST_SLOTS];
-    let mut own_sides = [0u16; MOST_EDGES];
-    let mut own_starts = [0u32; MOST_EDGES];
+    let mut names = [0u16; MOST_SLOTS];
+    let mut sides = [0u16; MOST_EDGES];
+    let mut starts = [0u32; MOST_EDGES];
     let mut used = [0u16; MARKS];
-    tables::copy_run(names, sides, run, &mut own_names, &mut own_sides);
-    tables::start_run(counts, sides, run, &mut used, &mut own_starts);
+    run.copy(whole.names, whole.sides, &mut names, &mut sides);
+    run.start(whole.grid.counts, whole.sides, &mut used, &mut starts);
     let first = 4 * run.from;
     let end = first + 4 * run.size;
-    split::draw(
-        &cells[first..end],
-        counts,
-        &own_names,
-        &own_sides,
-        &own_starts,
-        area,
-    )
+    let tables = Tables {
+        cells: &whole.grid.cells[first..end],
+        counts: whole.grid.counts,
+        names: &names,
+        sides: &sides,
+        starts: &starts,
+    };
+    split::draw(tables, area)
 }
 
 // The mesh of one run, from the tables of the whole: rows 25, 26 and 12, or the words.
-fn cut_run(
-    cells: &[u16],
-    counts: &[u16],
-    starts: &[u32],
-    names: &[u16; MOST_SLOTS],
-    sides: &[u16; MOST_EDGES],
-    cuts: &[u16],
-    run: usize,
-    area: &mut [u32],
-) -> Meshed
-    requires { SomeTables cells.now counts.now starts.now names.now sides.now }
-    ensures { (edges : List ℕ) → Tables (grid_of cells.now edges counts.now starts.now) names.now sides.now → RunDone (grid_of cells.now edges counts.now starts.now) cuts.now run area.old area.new (mesh_numbers result) }
+fn cut_run(whole: Whole, cuts: &[u16], run: usize, area: &mut [u32]) -> Result<Mesh, Refusal>
+    requires { WholeTabled whole }
+    ensures { RunDone (lent whole.entry.grid) cuts.now run area.old area.new (mesh_numbers result) }
 {
-    let n = cells.len() / 4;
-    let bad = cuts::first_bad(cuts, n);
-    if bad < cuts.len() {
-        return Meshed::Refused(25, bad);
+    let n = whole.grid.cells.len() / 4;
+    if let Some(bad) = cuts::first_bad(cuts, n) {
+        return Err(Row::Cuts.at(bad));
     }
     if cuts.len() < run {
-        return Meshed::Refused(26, run);
+        return Err(Row::NoRun.at(run));
     }
-    let span = cuts::span_of(cuts, n, run);
-    let d = draw_run(cells, counts, starts, names, sides, span, area);
+    let span = Span::of(cuts, n, run);
+    let d = draw_run(whole, span, area);
     if area.len() < WORD_COUNT * d.triangles {
-        return Meshed::Refused(12, d.triangles);
+        return Err(Row::MeshArea.at(d.triangles));
     }
-    Meshed::Triangles(d.triangles as u64, d.splits)
+    Ok(Mesh {
+        triangles: d.triangles as u64,
+        splits: d.splits,
+    })
 }
 
 // The mesh of one run, asked for by its number from 0, as a grid of its own. Keeps 40 KB on the stack for the tables of the whole and 112 KB for the run's,
 // besides what `grid::lay` and then `split::draw` keep.
-pub fn mesh_run(
-    cells: &[u16],
-    edges: &[u16],
-    counts: &[u16],
-    starts: &[u32],
-    cuts: &[u16],
-    run: usize,
-    area: &mut [u32],
-) -> Meshed
-    ensures { RunDone (grid_of cells.now edges.now counts.now starts.now) cuts.now run area.old area.new (mesh_numbers result) }
+pub fn mesh_run(grid: Grid, cuts: &[u16], run: usize, area: &mut [u32]) -> Result<Mesh, Refusal>
+    ensures { RunDone (lent grid.entry) cuts.now run area.old area.new (mesh_numbers result) }
 {
     let mut names = [0u16; MOST_SLOTS];
     let mut sides = [0u16; MOST_EDGES];
-    match grid::lay(cells, edges, counts, starts, &mut names, &mut sides) {
-        Checked::Refused(row, place) => Meshed::Refused(row, place),
-        Checked::Crossings(_) => { cut_run(cells, counts, starts, &names, &sides, cuts, run, area) }
-    }
+    grid::lay(grid, &mut names, &mut sides)?;
+    let whole = Whole {
+        grid,
+        names: &names,
+        sides: &sides,
+    };
+    cut_run(whole, cuts, run, area)
 }
 
 // Writes what is drawn of the cells of the tables from index `at` on, where it has room there, and answers how many triangles and splits it has.
-fn draw_at(
-    cells: &[u16],
-    counts: &[u16],
-    names: &[u16; MOST_SLOTS],
-    sides: &[u16; MOST_EDGES],
-    starts: &[u32],
-    area: &mut [u32],
-    at: usize,
-) -> DrawnSums
+fn draw_at(tables: Tables, area: &mut [u32], at: usize) -> DrawnSums
     requires { at ≤ length area.old }
-    ensures triangles_value { (result.triangles ≡ length (table_drawn cells.now counts.now names.now sides.now starts.now)) × (result.splits ≡ table_splits cells.now counts.now names.now sides.now starts.now) × (result.triangles ≤ most_drawn) }
-    ensures area_after { area.new ≡ stored_in area.old at (all_words (table_drawn cells.now counts.now names.now sides.now starts.now)) }
+    ensures triangles_value { (result.triangles ≡ length (triangles_drawn tables.entry)) × (result.splits ≡ splits_made tables.entry) × (result.triangles ≤ most_drawn) }
+    ensures area_after { area.new ≡ stored_in area.old at (all_words (triangles_drawn tables.entry)) }
 {
-    split::draw(cells, counts, names, sides, starts, &mut area[at..])
+    split::draw(tables, &mut area[at..])
 }
 
 // Writes the mesh of one run from index `at` on, in its own names, then puts these into those of the whole, and answers the next index. The arrays are for
 // the run's tables; all marks in `used` are below the run's.
 fn join_run(
-    cells: &[u16],
-    counts: &[u16],
-    starts: &[u32],
-    names: &[u16; MOST_SLOTS],
-    sides: &[u16; MOST_EDGES],
+    whole: Whole,
     run: Span,
-    own_names: &mut [u16; MOST_SLOTS],
-    own_sides: &mut [u16; MOST_EDGES],
-    own_starts: &mut [u32; MOST_EDGES],
+    names: &mut [u16; MOST_SLOTS],
+    sides: &mut [u16; MOST_EDGES],
+    starts: &mut [u32; MOST_EDGES],
     used: &mut [u16; MARKS],
     over: &mut [u16; CROSSINGS],
     area: &mut [u32],
     at: usize,
 ) -> usize
-    requires { (edges : List ℕ) × JoinableRun (grid_of cells.now edges counts.now starts.now) names.now sides.now run.from run.size run.mark at (length area.old) used.old }
-    ensures by_index { (e : ℕ) → get_or used.new e 0 ≤ run.mark }
-    ensures by_index_2 { (edges : List ℕ) → JoinableRun (grid_of cells.now edges counts.now starts.now) names.now sides.now run.from run.size run.mark at (length area.old) used.old → Stored area.old at (all_words (run_renamed (grid_of cells.now edges counts.now starts.now) run.from run.size)) area.new result }
+    requires { WholeJoinableRun whole run.from run.size run.mark at (length area.old) used.old }
+    ensures marks { (e : ℕ) → get_or used.new e 0 ≤ run.mark }
+    ensures stored { Stored area.old at (all_words (run_renamed (lent whole.entry.grid) run.from run.size)) area.new result }
 {
-    tables::copy_run(names, sides, run, own_names, own_sides);
-    tables::start_run(counts, sides, run, used, own_starts);
+    run.copy(whole.names, whole.sides, names, sides);
+    run.start(whole.grid.counts, whole.sides, used, starts);
     let first = 4 * run.from;
     let end = first + 4 * run.size;
-    let d = draw_at(
-        &cells[first..end],
-        counts,
-        own_names,
-        own_sides,
-        own_starts,
-        area,
-        at,
+    let tables = Tables {
+        cells: &whole.grid.cells[first..end],
+        counts: whole.grid.counts,
+        names,
+        sides,
+        starts,
+    };
+    let d = draw_at(tables, area, at);
+    run.number_sides(
+        whole.grid.counts,
+        whole.grid.starts,
+        whole.sides,
+        starts,
+        over,
     );
-    words::number_sides(counts, starts, sides, run, own_starts, over);
-    words::put_over(names, over, run.from, area, at, d.triangles);
+    words::put_over(whole.names, over, run.from, area, at, d.triangles);
     at + WORD_COUNT * d.triangles
 }
 
 // Writes the meshes of all runs, one after the other, in the names of the whole, and answers the next index. They have room in the area.
-fn join_runs(
-    cells: &[u16],
-    counts: &[u16],
-    starts: &[u32],
-    names: &[u16; MOST_SLOTS],
-    sides: &[u16; MOST_EDGES],
-    cuts: &[u16],
-    area: &mut [u32],
-) -> usize
-    requires { (edges : List ℕ) × Joinable (grid_of cells.now edges counts.now starts.now) names.now sides.now cuts.now (length area.old) }
-    ensures { (edges : List ℕ) → Joinable (grid_of cells.now edges counts.now starts.now) names.now sides.now cuts.now (length area.old) → Stored area.old 0 (all_words (joined_mesh (grid_of cells.now edges counts.now starts.now) cuts.now)) area.new result }
+fn join_runs(whole: Whole, cuts: &[u16], area: &mut [u32]) -> usize
+    requires { WholeJoinable whole cuts.now (length area.old) }
+    ensures { Stored area.old 0 (all_words (joined_mesh (lent whole.entry.grid) cuts.now)) area.new result }
 {
-    let mut own_names = [0u16; MOST_SLOTS];
-    let mut own_sides = [0u16; MOST_EDGES];
-    let mut own_starts = [0u32; MOST_EDGES];
+    let mut names = [0u16; MOST_SLOTS];
+    let mut sides = [0u16; MOST_EDGES];
+    let mut starts = [0u32; MOST_EDGES];
     let mut used = [0u16; MARKS];
     let mut over = [0u16; CROSSINGS];
-    let mut i: usize = 0;
-    let mut r: usize = 0;
-    while r <= cuts.len() {
+    let mut i = 0;
+    for r in 0..cuts.len() + 1 {
+        let run = Span::of(cuts, whole.grid.cells.len() / 4, r);
         i = join_run(
-            cells,
-            counts,
-            starts,
-            names,
-            sides,
-            cuts::span_of(cuts, cells.len() / 4, r),
-            &mut own_names,
-            &mut own_sides,
-            &mut own_starts,
+            whole,
+            run,
+            &mut names,
+            &mut sides,
+            &mut starts,
             &mut used,
             &mut over,
             area,
             i,
         );
-        r += 1;
     }
     i
 }
 
-// How many triangles are drawn of the cells of the tables where they have no room in so many words, 0 where they have. They are no more than `most`, and
-// counted only where so many have no room; the one word that is lent for it has room for none.
-fn lacking(
-    cells: &[u16],
-    counts: &[u16],
-    names: &[u16; MOST_SLOTS],
-    sides: &[u16; MOST_EDGES],
-    starts: &[u32],
-    most: usize,
-    room: usize,
-) -> usize
-    requires { (length (table_drawn cells.now counts.now names.now sides.now starts.now) ≤ most) × (most ≤ most_drawn) }
-    ensures { result ≡ lacking_in room (length (table_drawn cells.now counts.now names.now sides.now starts.now)) }
+// How many triangles are drawn of the cells of the tables where they have no room in so many words. They are no more than `most`, and counted only where so
+// many have no room; the one word that is lent for it has room for none.
+fn lacking(tables: Tables, most: usize, room: usize) -> Option<usize>
+    requires { (length (triangles_drawn tables) ≤ most) × (most ≤ most_drawn) }
+    ensures { result ≡ lacking_in room (length (triangles_drawn tables.entry)) }
 {
     if WORD_COUNT * most <= room {
-        return 0;
+        return None;
     }
     let mut word = [0u32; 1];
-    let d = split::draw(cells, counts, names, sides, starts, &mut word);
+    let d = split::draw(tables, &mut word);
     if room < WORD_COUNT * d.triangles {
-        return d.triangles;
+        Some(d.triangles)
+    } else {
+        None
     }
-    0
 }
 
 // All runs joined, from the tables of the whole: rows 25 and 12, or the words. The triangles are as many as those of all cells, whatever their names.
-fn cut_joined(
-    cells: &[u16],
-    counts: &[u16],
-    starts: &[u32],
-    names: &[u16; MOST_SLOTS],
-    sides: &[u16; MOST_EDGES],
-    cuts: &[u16],
-    area: &mut [u32],
-) -> Meshed
-    requires { SomeTables cells.now counts.now starts.now names.now sides.now }
-    ensures { (edges : List ℕ) → Tables (grid_of cells.now edges counts.now starts.now) names.now sides.now → JoinedDone (grid_of cells.now edges counts.now starts.now) cuts.now area.old area.new (mesh_numbers result) }
+fn cut_joined(whole: Whole, cuts: &[u16], area: &mut [u32]) -> Result<Mesh, Refusal>
+    requires { WholeTabled whole }
+    ensures { JoinedDone (lent whole.entry.grid) cuts.now area.old area.new (mesh_numbers result) }
 {
-    let bad = cuts::first_bad(cuts, cells.len() / 4);
-    if bad < cuts.len() {
-        return Meshed::Refused(25, bad);
+    if let Some(bad) = cuts::first_bad(cuts, whole.grid.cells.len() / 4) {
+        return Err(Row::Cuts.at(bad));
     }
-    let s = split::sums_of(cells, counts, sides);
+    let tables = Tables {
+        cells: whole.grid.cells,
+        counts: whole.grid.counts,
+        names: whole.names,
+        sides: whole.sides,
+        starts: whole.grid.starts,
+    };
+    let s = split::sums_of(tables);
     let most = s.crossings + s.more as usize;
-    let n = lacking(cells, counts, names, sides, starts, most, area.len());
-    if n != 0 {
-        return Meshed::Refused(12, n);
+    if let Some(n) = lacking(tables, most, area.len()) {
+        return Err(Row::MeshArea.at(n));
     }
-    let end = join_runs(cells, counts, starts, names, sides, cuts, area);
-    Meshed::Triangles((end / WORD_COUNT) as u64, s.splits as u32)
+    let end = join_runs(whole, cuts, area);
+    Ok(Mesh {
+        triangles: (end / WORD_COUNT) as u64,
+        splits: s.splits as u32,
+    })
 }
 
 // All runs joined, in the names of the whole. Keeps 40 KB on the stack for the tables of the whole and 240 KB for a run's, besides what `grid::lay` and then
 // `split::draw` keep.
-pub fn mesh_joined(
-    cells: &[u16],
-    edges: &[u16],
-    counts: &[u16],
-    starts: &[u32],
-    cuts: &[u16],
-    area: &mut [u32],
-) -> Meshed
-    ensures { JoinedDone (grid_of cells.now edges.now counts.now starts.now) cuts.now area.old area.new (mesh_numbers result) }
+pub fn mesh_joined(grid: Grid, cuts: &[u16], area: &mut [u32]) -> Result<Mesh, Refusal>
+    ensures { JoinedDone (lent grid.entry) cuts.now area.old area.new (mesh_numbers result) }
 {
     let mut names = [0u16; MOST_SLOTS];
     let mut sides = [0u16; MOST_EDGES];
-    match grid::lay(cells, edges, counts, starts, &mut names, &mut sides) {
-        Checked::Refused(row, place) => Meshed::Refused(row, place),
-        Checked::Crossings(_) => { cut_joined(cells, counts, starts, &names, &sides, cuts, area) }
-    }
+    grid::lay(grid, &mut names, &mut sides)?;
+    let whole = Whole {
+        grid,
+        names: &names,
+        sides: &sides,
+    };
+    cut_joined(whole, cuts, area)
 }

@@ -8,7 +8,6 @@ ghost use Rattle.layers.specs.work.Work.{Leading, CrossingsNumbered, most_number
 
 use super::Span;
 use cell::{NO_NAME, WORD_COUNT};
-use counting::{wide16, wide32, word16};
 use grid::{MOST_CELLS, MOST_EDGES, MOST_SLOTS};
 use split::{FIRST_CROSSING, FIRST_FACE};
 
@@ -20,37 +19,34 @@ fn number_edge(own: usize, first: usize, n: usize, over: &mut [u16])
     requires { (own + n ≤ length over.old) × (first + n ≤ most_numbers) }
     ensures { over.new ≡ sets over.old own (values (λ i. first + i) n) }
 {
-    let mut i: usize = 0;
-    while i < n {
+    for i in 0..n {
         over[own + i] = (first + i) as u16;
-        i += 1;
     }
 }
 
-// The whole's numbers of a run's crossings. Edges of several cells are gone over again.
-pub(crate) fn number_sides(
-    counts: &[u16],
-    starts: &[u32],
-    sides: &[u16; MOST_EDGES],
-    run: Span,
-    own_starts: &[u32; MOST_EDGES],
-    over: &mut [u16],
-)
-    requires by_index { (f : ℕ → ℕ) × Leading f counts.now starts.now sides.now run.from (6 * run.size) own_starts.now }
-    requires over_len { length over.old ≡ most_numbers }
-    ensures { (f : ℕ → ℕ) → Leading f counts.now starts.now sides.now run.from (6 * run.size) own_starts.now → CrossingsNumbered f counts.now sides.now run.from (6 * run.size) own_starts.now over.new }
-{
-    let n = 6 * run.size;
-    let mut j: usize = 0;
-    while j < n {
-        let e = wide16(sides[6 * run.from + j]);
-        number_edge(
-            wide32(own_starts[e]),
-            wide32(starts[e]),
-            wide16(counts[e]),
-            over,
-        );
-        j += 1;
+impl Span {
+    // The whole's numbers of the run's crossings. Edges of several cells are gone over again.
+    pub(crate) fn number_sides(
+        self,
+        counts: &[u16],
+        starts: &[u32],
+        sides: &[u16; MOST_EDGES],
+        own_starts: &[u32; MOST_EDGES],
+        over: &mut [u16],
+    )
+        requires by_index { (f : ℕ → ℕ) × Leading f counts.now starts.now sides.now self.from (6 * self.size) own_starts.now }
+        requires over_len { length over.old ≡ most_numbers }
+        ensures { (f : ℕ → ℕ) → Leading f counts.now starts.now sides.now self.from (6 * self.size) own_starts.now → CrossingsNumbered f counts.now sides.now self.from (6 * self.size) own_starts.now over.new }
+    {
+        for j in 0..6 * self.size {
+            let e = sides[6 * self.from + j] as usize;
+            number_edge(
+                own_starts[e] as usize,
+                starts[e] as usize,
+                counts[e] as usize,
+                over,
+            );
+        }
     }
 }
 
@@ -58,27 +54,29 @@ pub(crate) fn number_sides(
 fn crossing_over(over: &[u16; CROSSINGS], g: u32) -> u32
     ensures { result ≡ crossing_over over.now g }
 {
-    if FIRST_CROSSING <= g {
-        return g;
+    if g < FIRST_CROSSING {
+        over[g as usize] as u32
+    } else {
+        g
     }
-    word16(over[g as usize])
 }
 
 fn face_over(names: &[u16; MOST_SLOTS], from: usize, f: u32) -> u32
     requires { from ≤ most_cells }
     ensures { result ≡ face_over names.now from f }
 {
-    if FIRST_FACE <= f {
-        return f;
+    if f < FIRST_FACE {
+        names[(4 * from + f as usize) % MOST_SLOTS] as u32
+    } else {
+        f
     }
-    word16(names[(4 * from + wide32(f)) % MOST_SLOTS])
 }
 
 fn cell_over(from: usize, w: u32) -> u32
     requires { from ≤ most_cells }
     ensures { result ≡ cell_over from w }
 {
-    let c = wide32(w);
+    let c = w as usize;
     ((from + c % MOST_CELLS) % MOST_CELLS + c / MOST_CELLS * MOST_CELLS) as u32
 }
 
@@ -95,18 +93,16 @@ fn word_over(
     ensures { result ≡ word_over (table_over names.now over.now from) j f w }
 {
     if j == 0 {
-        return cell_over(from, w);
+        cell_over(from, w)
+    } else if j < 5 {
+        crossing_over(over, w)
+    } else if j % 2 == 1 {
+        face_over(names, from, w)
+    } else if f == NO_NAME {
+        w
+    } else {
+        crossing_over(over, w)
     }
-    if j < 5 {
-        return crossing_over(over, w);
-    }
-    if j % 2 == 1 {
-        return face_over(names, from, w);
-    }
-    if f == NO_NAME {
-        return w;
-    }
-    crossing_over(over, w)
 }
 
 // The words of the triangle that stand from index `at` on.
@@ -121,13 +117,11 @@ fn put_triangle(
     requires word_count_in_bounds { at + word_count ≤ length area.old }
     ensures { area.new ≡ sets area.old at (triangle_over (table_over names.now over.now from) area.old at) }
 {
-    let mut f: u32 = 0;
-    let mut j: usize = 0;
-    while j < WORD_COUNT {
+    let mut f = 0;
+    for j in 0..WORD_COUNT {
         let w = area[at + j];
         area[at + j] = word_over(names, over, from, j, f, w);
         f = w;
-        j += 1;
     }
 }
 
@@ -143,11 +137,7 @@ pub(crate) fn put_over(
     requires { (at + word_count * n ≤ length area.old) × (from ≤ most_cells) }
     ensures { area.new ≡ sets area.old at (triangles_over (table_over names.now over.now from) area.old at n) }
 {
-    let mut i = at;
-    let mut t: usize = 0;
-    while t < n {
-        put_triangle(names, over, from, area, i);
-        i += WORD_COUNT;
-        t += 1;
+    for t in 0..n {
+        put_triangle(names, over, from, area, at + WORD_COUNT * t);
     }
 }

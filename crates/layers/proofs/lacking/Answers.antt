@@ -17,5 +17,5 @@ pub returns-then-room-d : goal.returns-then-room-d
 returns-then-room-d c = let e = c.draw-d.ensures.triangles_value.0 in
     lacks c.args.room _ c.if-room-d.true ∙ ap (lacking_in c.args.room) e
 
-pub returns : goal.returns
-returns c = lacks_none c.args.room _ (omega (arith, c.draw-d.ensures.triangles_value.0))
+pub returns-else-room-d : goal.returns-else-room-d
+returns-else-room-d c = lacks_none c.args.room _ (omega (arith, c.draw-d.ensures.triangles_value.0))

@@ -1,16 +1,17 @@
 -- What is proved of runs (02, W13).
-use Rattle.std.specs.Prelude.{ℕ, ◌+◌, ◌-◌, ◌*◌, ◌≤◌, ◌<◌, ◌≡◌, ◌≢◌, List, leb, length}
+use Rattle.std.specs.Prelude.{ℕ, ◌+◌, ◌-◌, ◌*◌, ◌≤◌, ◌<◌, ◌≡◌, ◌≢◌, Result, List, leb, length}
 use Rattle.counting.specs.Pick.{pick}
 use Rattle.counting.specs.Lists.{pre, over}
 use Rattle.grid.specs.Grid.{Grid, count_of, face_name, cell_count, start, crossings, edge_number}
 use Rattle.layers.specs.Runs.{in_run, in_whole, run_cells, run_counts, run_grid, crossing_in_whole, face_in_whole, run_renamed}
 use Rattle.answer.specs.Answer.{result_of}
+use Rattle.answer.specs.declared.Refusal.{Refusal}
 use Rattle.answer.specs.Rows.{Clear}
 use Rattle.answer.specs.claims.Faults.{row_at}
 use Rattle.grid.specs.Rows.{rows, grid_answer}
 use Rattle.grid.specs.claims.Accepted.{Sound}
 use Rattle.split.specs.Parts.{drawn_triangles}
-use Rattle.mesh.specs.declared.Meshed.{Meshed}
+use Rattle.mesh.specs.declared.sizes.Mesh.{Mesh}
 use Rattle.mesh.specs.Numbers.{mesh_numbers}
 use Rattle.mesh.specs.Mesh.{grid_cell}
 use Rattle.mesh.specs.Answer.{mesh_answer, mesh_area}
@@ -96,11 +97,11 @@ RunsMeshed = (G : Grid) (cuts values alone : List ℕ) (r : ℕ) → grid_answer
     → grid_answer (run_grid G (run_start cuts r) (run_size (cell_count G.cells) cuts r)) ≡ result_of alone
     → AsGrid G cuts r (run_grid G (run_start cuts r) (run_size (cell_count G.cells) cuts r))
 
--- the numbers tell the answer: no two values of the enum are read as the same answer of a call
+-- the numbers tell the answer: no two answers of a call are read as the same numbers
 abbrev pub RunTold : Type 0
-RunTold = (G : Grid) (cuts : List ℕ) (run room : ℕ) (r s : Meshed)
+RunTold = (G : Grid) (cuts : List ℕ) (run room : ℕ) (r s : Result Mesh Refusal)
     → mesh_numbers r ≡ run_answer G cuts run room → mesh_numbers s ≡ run_answer G cuts run room → r ≡ s
 
 abbrev pub JoinedTold : Type 0
-JoinedTold = (G : Grid) (cuts : List ℕ) (room : ℕ) (r s : Meshed)
+JoinedTold = (G : Grid) (cuts : List ℕ) (room : ℕ) (r s : Result Mesh Refusal)
     → mesh_numbers r ≡ joined_answer G cuts room → mesh_numbers s ≡ joined_answer G cuts room → r ≡ s

@@ -1,5 +1,5 @@
 -- What the parts of the code start from and leave.
-use Rattle.std.specs.Prelude.{ℕ, zero, suc, ◌+◌, ◌*◌, ◌-◌, ◌/◌, ◌%◌, ◌≤◌, ◌<◌, ◌≡◌, Bool, true, List, eqb, leb, ltb, length, get_or}
+use Rattle.std.specs.Prelude.{ℕ, zero, suc, ◌+◌, ◌*◌, ◌-◌, ◌/◌, ◌%◌, ◌≤◌, ◌<◌, ◌≡◌, Bool, true, Option, Some, None, List, eqb, leb, ltb, length, get_or}
 use Rattle.answer.specs.Rows.{Clear}
 use Rattle.counting.specs.Pick.{pick}
 use Rattle.counting.specs.Search.{some}
@@ -219,8 +219,8 @@ pub record JoinableRun (G : Grid) (names sides : List ℕ) (from size m at room 
   pub below : (e : ℕ) → get_or used e 0 < m
 
 -- so many triangles, where they have no room in so many words
-unfoldable pub lacking_in : (room n : ℕ) → ℕ
-lacking_in room n = pick (ltb room (word_count * n)) n 0
+unfoldable pub lacking_in : (room n : ℕ) → Option ℕ
+lacking_in room n = pick (ltb room (word_count * n)) (Some n) None
 
 -- all runs that are to be joined
 pub record Joinable (G : Grid) (names sides cuts : List ℕ) (room : ℕ) : Type 0 where

@@ -1,24 +1,24 @@
-use mathlib.Core.Path.{◌∙◌, refl, sym}
+use Rattle.std.proofs.Common.{below_more}
+use mathlib.Core.Path.{refl}
+use mathlib.Core.Logic.{inl, inr, ⊎_elim}
+use native.Mathlib.Nat.{not-suc-le-zero}
 use native.Mathlib.Omega.{arith}
-use Rattle.counting.proofs.Search.{seek_start, seek_hit, seek_miss, seek_end}
-use Rattle.layers.proofs.Steps.{bad_low, bad_high, not_bad, start_next}
+use Rattle.counting.proofs.Search.{found_hit, found_end}
+use Rattle.layers.proofs.Steps.{bad_cut_at, not_bad, start_next}
 use Rattle.layers.proofs.cuts.first_bad.Goals as goal
 
 pub loop-i-init : goal.loop-i-init
-loop-i-init c = (omega arith, refl, seek_start _ _)
+loop-i-init c = record { before_is = refl; fine = λ k h. absurd (not-suc-le-zero h) }
 
 pub returns-then-cut-before : goal.returns-then-cut-before
-returns-then-cut-before c = sym (c.loop-i.invariant.2 ∙ seek_hit _ _ _ (omega arith) (bad_low _ _ _ (omega (arith, c.wide16-cut.ensures.0, c.loop-i.invariant.1))))
-
-pub returns-then-n-cut : goal.returns-then-n-cut
-returns-then-n-cut c = sym (c.loop-i.invariant.2 ∙ seek_hit _ _ _ (omega arith) (bad_high _ _ _ (omega (arith, c.wide16-cut.ensures.0))))
+returns-then-cut-before c = let I = c.loop-i.invariant in
+    found_hit _ _ _ (omega arith) (bad_cut_at _ _ _ I.before_is (⊎_elim inl (λ q. inr q.1) c.then-cut-before.either)) I.fine
 
 pub loop-i-preserved : goal.loop-i-preserved
-loop-i-preserved c = (
-  omega arith,
-  c.wide16-cut.ensures.0 ∙ start_next c.args.cuts.now c.loop-i.i,
-  c.loop-i.invariant.2 ∙ seek_miss _ _ _ (omega arith) (not_bad _ _ _ (omega (arith, c.wide16-cut.ensures.0, c.loop-i.invariant.1)) (omega (arith, c.wide16-cut.ensures.0))),
-)
+loop-i-preserved c = record {
+  before_is = start_next c.args.cuts.now c.loop-i.i;
+  fine = below_more _ _ c.loop-i.invariant.fine (not_bad _ _ _ (omega (arith, c.loop-i.invariant.before_is)) (omega arith));
+}
 
 pub returns : goal.returns
-returns c = sym (c.loop-i.invariant.2 ∙ seek_end _ _ _ (omega arith))
+returns c = found_end _ _ (λ k h. c.loop-i.invariant.fine k (omega arith))

@@ -19,6 +19,6 @@ returns-then-j-eq1 c = c.face_over.ensures ∙ word_face _ _ _ _ c.if-j-eq0.fals
 pub returns-then-f-eq-NO_NAME : goal.returns-then-f-eq-NO_NAME
 returns-then-f-eq-NO_NAME c = word_inner _ _ _ _ c.if-j-eq0.false (omega arith) c.if-j-eq1.false c.if-f-eq-NO_NAME.true
 
-pub returns : goal.returns
+pub returns-else-f-eq-NO_NAME : goal.returns-else-f-eq-NO_NAME
 unfolding keep_inner
-returns c = c.crossing_over-2.ensures ∙ word_lower _ _ _ _ c.if-j-eq0.false (omega arith) c.if-j-eq1.false c.if-f-eq-NO_NAME.false
+returns-else-f-eq-NO_NAME c = c.crossing_over-else-f-eq-NO_NAME.ensures ∙ word_lower _ _ _ _ c.if-j-eq0.false (omega arith) c.if-j-eq1.false c.if-f-eq-NO_NAME.false
