@@ -1,10 +1,15 @@
 -- Where the numbers of an entry stand in the rows of the table.
-use Prim.Native.Nat.{ℕ, ◌+◌, ◌*◌, ◌/◌, ◌%◌, ◌<◌}
+use Prim.Native.Nat.{ℕ, ◌+◌, ◌*◌, ◌/◌, ◌%◌, ◌≤◌, ◌<◌}
 use mathlib.Core.Path.{◌≡◌, refl, sym, ap, ◌∙◌}
 use mathlib.Core.List.{[]}
 use native.Mathlib.Nat.{add-zero}
 use native.Mathlib.Omega.{arith}
 use lib.ListN.{get_or, length, replicate, get_or-replicate}
+use lib.Dec.{leb}
+use mathlib.Core.Bool.{true}
+use borrow.Author.Tests.{leb-true}
+use Rattle.counting.specs.Search.{every}
+use Rattle.counting.proofs.Search.{every_is}
 use Rattle.counting.specs.Lists.{over, values}
 use Rattle.counting.proofs.Lists.{values_at}
 use Rattle.counting.proofs.Fronts.{get_or_blocks}
@@ -30,3 +35,11 @@ loops-at n l = rw (add-zero (2 * (n % 9)), add-zero (2 * n)) at (number_at n 0 l
 
 pub triangles-at : (n : ℕ) → n < entries → get_or (get_or table_rows (n / 9) []) (2 * (n % 9) + 1) 0 ≡ get_or table (2 * n + 1) 0
 triangles-at n l = number_at n 1 l (omega arith)
+
+-- and no entry has more triangles than 8 bits say
+all_few : every (λ n. leb (get_or table (2 * n + 1) 0) 255) entries ≡ true
+unfolding every over table_rows table
+all_few = refl
+
+pub triangles-few : (n : ℕ) → n < entries → get_or table (2 * n + 1) 0 ≤ 255
+triangles-few n l = leb-true (get_or table (2 * n + 1) 0) 255 (every_is (λ n. leb (get_or table (2 * n + 1) 0) 255) entries all_few n l)
