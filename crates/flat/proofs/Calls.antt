@@ -33,11 +33,11 @@ use Rattle.flat.specs.Chain.{all_chain_words}
 use Rattle.flat.specs.Chains.{chains_words, step}
 use Rattle.flat.specs.claims.Claims.{ChainsTold}
 use Rattle.flat.specs.Done.{Done}
-use Rattle.flat.specs.work.Work.{StepTable, SidesKnown, TracedIn, step_in, dart_step}
+use Rattle.flat.specs.work.Work.{Sides, StepTable, SidesKnown, TracedIn, step_in, dart_step}
 use Rattle.flat.proofs.Accepts.{acceptance_yields, accepted_answer}
 use Rattle.flat.proofs.Ports.{grid_darts, segments_hold, step_moves}
 use Rattle.flat.proofs.Room.{words_room}
-use Rattle.flat.proofs.Stepped.{along_step, linked}
+use Rattle.flat.proofs.Stepped.{along_step, linked, sides_are}
 
 module _ (G : FlatGrid) where
   module _ (r : Result ℕ Refusal) (f : Refusal) (e : r ≡ Err f) (q : check_numbers r ≡ flat_answer G) where
@@ -85,6 +85,24 @@ copied ws was words area {m = m} e l k q =
     at i h =
         ap (λ (w : List ℕ). get_or w i 0) e ∙ ap (λ (k : ℕ). get_or (sets was 0 ws) k 0) (sym (zero-add i))
         ∙ get_or_sets_in ws was 0 i 0 (omega arith) (omega arith)
+
+-- the numbers of the triangles' edges, without what lies beyond them
+module _ (G : FlatGrid) (sides : List ℕ) (S : SidesKnown G sides) where
+  abbrev pub front : List ℕ
+  front = take (3 * triangles_in G.triangles) sides
+
+  front_long : length front ≡ 3 * triangles_in G.triangles
+  front_long = length-take-le (3 * triangles_in G.triangles) sides S.room
+
+  pub front_known : SidesKnown G front
+  front_known = record { room = omega (arith, front_long); at = λ j h. get_or-take (3 * triangles_in G.triangles) sides j 0 h ∙ S.at j h }
+
+  pub front_sides : Accepted G → Sides G.counts front (length front)
+  front_sides A = subst (Sides G.counts front) (sym front_long) (sides_are G A front front_known)
+
+  pub front_steps : (n : ℕ) (was next : List ℕ) → next ≡ filled (dart_step G.counts front (length front)) n was
+      → next ≡ filled (dart_step G.counts front (3 * triangles_in G.triangles)) n was
+  front_steps n was next e = e ∙ ap (λ k. filled (dart_step G.counts front k) n was) front_long
 
 -- of a list no more than a front is copied
 pub front_filled : (made area : List ℕ) (m : ℕ) → m ≤ length made → filled (λ i. get_or (take m made) i 0) (length (take m made)) area ≡ filled (λ i. get_or made i 0) m area

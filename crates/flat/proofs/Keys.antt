@@ -19,7 +19,7 @@ use Rattle.counting.specs.Lists.{over, values}
 use Rattle.counting.specs.Stored.{filled}
 use Rattle.counting.specs.Search.{count, every, first, found, last, some}
 use Rattle.counting.proofs.Bools.{or_right}
-use Rattle.counting.proofs.Search.{AtMostOne, count_blocks, count_ext, count_none, count_plus, count_two, count_zero, first_blocks, first_ext, first_found, first_none, found_first, found_none, none_found, last_is, last_le, some_ext, some_found, some_last}
+use Rattle.counting.proofs.Search.{AtMostOne, count_blocks, count_ext, count_none, count_plus, count_two, count_zero, first_blocks, first_ext, first_none, last_is, last_le, some_ext, some_found, some_last}
 use Rattle.counting.proofs.Stored.{sets_more}
 use Rattle.slots.specs.Slots.{lower, upper}
 use Rattle.face.specs.claims.Ends.{Edge, on_ab, on_ac, on_bc}

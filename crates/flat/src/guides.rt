@@ -3,10 +3,10 @@ ghost use Rattle.std.specs.Prelude.{◌≡◌, ◌+◌, ◌*◌, ◌<◌, ◌≤
 ghost use Rattle.face.specs.work.Corners.{corner_list};
 ghost use Rattle.face.specs.claims.Ends.{End};
 ghost use Rattle.grid.specs.Grid.{crossings};
-ghost use Rattle.flat.specs.work.Work.{count_at_place, land_at, Tabled, lane_step, LaneFits, guide_step, GuideFits, corners_at, LaneOf, Guides, PortGuides};
+ghost use Rattle.flat.specs.work.Work.{lane_step, LaneFits, guide_step, GuideFits, corners_at};
+ghost use Rattle.flat.specs.work.Held.{Held, count_in, land_in, LaneIn, GuidesIn, PortGuidesIn};
 
 use crate::join::flat_corners;
-use counting::{wide16, wide32};
 use face::{CornerCounts, Stand, stand_of};
 use slots::{lower_end, upper_end};
 
@@ -19,6 +19,23 @@ pub(crate) struct Lane {
     pub(crate) from: usize,
 }
 
+impl Lane {
+    // The dart that the k-th crossing from the corner leads to.
+    #[tactic(auto, unfolding(crate::specs::work::Work::lane_step))]
+    fn step(self, k: usize) -> usize
+        requires lane_fits { LaneFits self }
+        requires k_lt_size { k < self.size }
+        ensures value { result ≡ lane_step self k }
+        ensures upper_bound { result < 4294967296 }
+    {
+        if self.down {
+            self.from - 2 * (k + 1)
+        } else {
+            self.from + 2 * k
+        }
+    }
+}
+
 // The crossings of an edge in a triangle: those round the corners at its lower and its upper end, their number, and the dart of the first that is come
 // to from a crossing of the same edge.
 #[derive(Clone, Copy)]
@@ -29,176 +46,130 @@ pub(crate) struct Guide {
     pub(crate) own: usize,
 }
 
-// The dart that the k-th crossing from the corner leads to.
-fn lane_step(l: Lane, k: usize) -> usize
-    requires lane_fits { LaneFits l }
-    requires k_lt_size { k < l.size }
-    ensures value { result ≡ lane_step l k }
-    ensures upper_bound { result < 4294967296 }
-{
-    if l.down {
-        return l.from - 2 * (k + 1);
-    }
-    l.from + 2 * k
-}
-
-// The dart that crossing t leads to, as the face call decides it; the number of darts where there is none.
-pub(crate) fn guide_step(g: Guide, darts: usize, t: usize) -> usize
-    requires guide_fits { GuideFits g }
-    requires darts_bound { darts < 4294967296 }
-    ensures value { result ≡ guide_step g darts t }
-    ensures upper_bound { result < 4294967296 }
-{
-    if g.count <= t {
-        return darts;
-    }
-    match stand_of(g.low.size, g.count - g.high.size, t) {
-        Stand::Low => lane_step(g.low, t),
-        Stand::High => lane_step(g.high, g.count - 1 - t),
-        Stand::Up => g.own + 2 * (t + 1),
-        Stand::Down => g.own + 2 * (t - 1),
-        Stand::Alone => darts,
+impl Guide {
+    // The dart that crossing t leads to, as the face call decides it; the number of darts where there is none.
+    pub(crate) fn step(self, darts: usize, t: usize) -> usize
+        requires guide_fits { GuideFits self }
+        requires darts_bound { darts < 4294967296 }
+        ensures value { result ≡ guide_step self darts t }
+        ensures upper_bound { result < 4294967296 }
+    {
+        if self.count <= t {
+            return darts;
+        }
+        match stand_of(self.low.size, self.count - self.high.size, t) {
+            Stand::Low => self.low.step(t),
+            Stand::High => self.high.step(self.count - 1 - t),
+            Stand::Up => self.own + 2 * (t + 1),
+            Stand::Down => self.own + 2 * (t - 1),
+            Stand::Alone => darts,
+        }
     }
 }
 
-// The count of the edge at place j.
-fn count_at(counts: &[u16], sides: &[usize], j: usize) -> u16
-    requires j_in_bounds { j < length sides.now }
-    requires j_in_bounds_2 { get_or sides.now j 0 < length counts.now }
-    ensures { result ≡ count_at_place counts.now sides.now j }
-{
-    let e = sides[j];
-    counts[e]
+// What the step is read from: the counts; the number of the edge at each place of a triangle; the ports of each edge; the number of its first crossing.
+#[derive(Clone, Copy)]
+pub(crate) struct Tables<'a> {
+    pub(crate) counts: &'a [u16],
+    pub(crate) sides: &'a [usize],
+    pub(crate) ports: &'a [u16],
+    pub(crate) starts: &'a [u32],
 }
 
-// The dart that goes on from crossing t of the edge at place j, come to by the triangle of that place; also for the t after the last.
-fn land(
-    counts: &[u16],
-    sides: &[usize],
-    n: usize,
-    ports: &[u16],
-    starts: &[u32],
-    j: usize,
-    t: usize,
-) -> usize
-    requires tabled { Tabled counts.now sides.now n ports.now starts.now }
-    requires j_lt_n { j < n }
-    requires t_bound { t ≤ count_at_place counts.now sides.now j }
-    ensures value { result ≡ land_at counts.now sides.now n j t }
-    ensures upper_bound { result ≤ 2 * crossings counts.now + 1 }
-{
-    let e = sides[j];
-    let y = wide32(starts[e]) + t;
-    if wide16(ports[2 * e]) == j + 1 {
-        return 2 * y + 1;
+impl<'a> Tables<'a> {
+    // The count of the edge at place j.
+    fn count_at(self, j: usize) -> u16
+        requires j_in_bounds { j < length self.sides.now }
+        requires j_in_bounds_2 { get_or self.sides.now j 0 < length self.counts.now }
+        ensures { result ≡ count_in self.entry j }
+    {
+        let e = self.sides[j];
+        self.counts[e]
     }
-    2 * y
-}
 
-fn corner_of(c: CornerCounts, w: u32) -> usize
-    requires { w < 3 }
-    ensures { result ≡ get_or (corner_list c) w 0 }
-{
-    if w == 0 {
-        return wide16(c.a);
+    // The dart that goes on from crossing t of the edge at place j, come to by the triangle of that place; also for the t after the last.
+    fn land(self, j: usize, t: usize) -> usize
+        requires tabled { Held self }
+        requires j_lt_n { j < length self.sides.now }
+        requires t_bound { t ≤ count_in self j }
+        ensures value { result ≡ land_in self.entry j t }
+        ensures upper_bound { result ≤ 2 * crossings self.entry.counts.now + 1 }
+    {
+        let e = self.sides[j];
+        let y = self.starts[e] as usize + t;
+        let p = self.ports[2 * e] as usize;
+        if p == j + 1 { 2 * y + 1 } else { 2 * y }
     }
-    if w == 1 {
-        return wide16(c.b);
-    }
-    wide16(c.c)
-}
 
-// The lane of edge e at its end w, in the triangle whose first place is b and whose corner counts are c.
-fn lane_at(
-    counts: &[u16],
-    sides: &[usize],
-    n: usize,
-    ports: &[u16],
-    starts: &[u32],
-    b: usize,
-    c: CornerCounts,
-    w: u32,
-    e: u32,
-) -> Lane
-    requires tabled { Tabled counts.now sides.now n ports.now starts.now }
-    requires b_bound { b + 2 < n }
-    requires c_value { corner_list c ≡ corners_at counts.now sides.now b }
-    requires end { End w e }
-    ensures { LaneOf counts.now sides.now n b w e result }
-{
-    let j = b + wide32(w + 1 - e);
-    let m = corner_of(c, w);
-    if w == lower_end(w + 1 - e) {
-        return Lane {
-            size: m,
-            down: false,
-            from: land(counts, sides, n, ports, starts, j, 0),
-        };
+    // The lane of edge e at its end w, in the triangle whose first place is b and whose corner counts are c.
+    fn lane_at(self, b: usize, c: CornerCounts, w: u32, e: u32) -> Lane
+        requires tabled { Held self }
+        requires b_bound { b + 2 < length self.sides.now }
+        requires c_value { corner_list c ≡ corners_at self.counts.now self.sides.now b }
+        requires end { End w e }
+        ensures { LaneIn self.entry b w e result }
+    {
+        let other = w + 1 - e;
+        let j = b + other as usize;
+        let size = c.at(w) as usize;
+        if w == lower_end(other) {
+            return Lane {
+                size,
+                down: false,
+                from: self.land(j, 0),
+            };
+        }
+        let last = self.count_at(j) as usize;
+        Lane {
+            size,
+            down: true,
+            from: self.land(j, last),
+        }
     }
-    let last = wide16(count_at(counts, sides, j));
-    Lane {
-        size: m,
-        down: true,
-        from: land(counts, sides, n, ports, starts, j, last),
-    }
-}
 
-// The guide of the edge at place j, in the triangle of that place.
-fn guide_at(
-    counts: &[u16],
-    sides: &[usize],
-    n: usize,
-    ports: &[u16],
-    starts: &[u32],
-    j: usize,
-) -> Guide
-    requires tabled { Tabled counts.now sides.now n ports.now starts.now }
-    requires j_lt_n { j < n }
-    ensures { Guides counts.now sides.now n j result }
-{
-    let b = 3 * (j / 3);
-    let e = (j % 3) as u32;
-    let ab = count_at(counts, sides, b);
-    let ac = count_at(counts, sides, b + 1);
-    let bc = count_at(counts, sides, b + 2);
-    let c = flat_corners(ab, ac, bc);
-    let low = lane_at(counts, sides, n, ports, starts, b, c, lower_end(e), e);
-    let high = lane_at(counts, sides, n, ports, starts, b, c, upper_end(e), e);
-    let count = wide16(count_at(counts, sides, j));
-    let own = land(counts, sides, n, ports, starts, j, 0);
-    Guide {
-        low,
-        high,
-        count,
-        own,
+    // The guide of the edge at place j, in the triangle of that place.
+    fn guide_at(self, j: usize) -> Guide
+        requires tabled { Held self }
+        requires j_lt_n { j < length self.sides.now }
+        ensures { GuidesIn self.entry j result }
+    {
+        let b = 3 * (j / 3);
+        let e = (j % 3) as u32;
+        let ab = self.count_at(b);
+        let ac = self.count_at(b + 1);
+        let bc = self.count_at(b + 2);
+        let c = flat_corners(ab, ac, bc);
+        let low = self.lane_at(b, c, lower_end(e), e);
+        let high = self.lane_at(b, c, upper_end(e), e);
+        let count = self.count_at(j) as usize;
+        let own = self.land(j, 0);
+        Guide {
+            low,
+            high,
+            count,
+            own,
+        }
     }
-}
 
-// The guide by a port, that is by one more than a place; one without crossings where there is no triangle.
-pub(crate) fn port_guide(
-    counts: &[u16],
-    sides: &[usize],
-    n: usize,
-    ports: &[u16],
-    starts: &[u32],
-    q: usize,
-) -> Guide
-    requires tabled { Tabled counts.now sides.now n ports.now starts.now }
-    requires q_le_n { q ≤ n }
-    ensures { PortGuides counts.now sides.now n q result }
-{
-    if q == 0 {
-        let none = Lane {
-            size: 0,
-            down: false,
-            from: 0,
-        };
-        return Guide {
-            low: none,
-            high: none,
-            count: 0,
-            own: 0,
-        };
+    // The guide by a port, that is by one more than a place; one without crossings where there is no triangle.
+    pub(crate) fn port_guide(self, q: usize) -> Guide
+        requires tabled { Held self }
+        requires q_le_n { q ≤ length self.sides.now }
+        ensures { PortGuidesIn self.entry q result }
+    {
+        if q == 0 {
+            let none = Lane {
+                size: 0,
+                down: false,
+                from: 0,
+            };
+            return Guide {
+                low: none,
+                high: none,
+                count: 0,
+                own: 0,
+            };
+        }
+        self.guide_at(q - 1)
     }
-    guide_at(counts, sides, n, ports, starts, q - 1)
 }

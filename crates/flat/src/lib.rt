@@ -65,13 +65,8 @@ fn trace_in<const ROOM: usize>(
 {
     let mut next = [0u32; ROOM];
     let mut words = [0u16; ROOM];
-    steps::put_steps(
-        grid.counts,
-        sides,
-        3 * (grid.triangles.len() / 3),
-        2 * n,
-        &mut next,
-    );
+    let places = 3 * (grid.triangles.len() / 3);
+    steps::put_steps(grid.counts, &sides[..places], 2 * n, &mut next);
     let m = words::put_words(&next, n, &mut words);
     if area.len() < m {
         return Err(Row::ChainArea.at(m));

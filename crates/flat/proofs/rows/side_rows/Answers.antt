@@ -2,7 +2,6 @@ use Prim.Native.Nat.{ℕ}
 use mathlib.Core.Path.{◌∙◌, ap, refl, sym}
 use native.Mathlib.Omega.{arith}
 use lib.ListN.{length, length-replicate}
-use Rattle.std.specs.Prelude.{Some, None}
 use Rattle.counting.proofs.Search.{found_none}
 use Rattle.counting.proofs.Tables.{filled_table}
 use Rattle.counting.proofs.Stored.{length_filled}

@@ -4,7 +4,7 @@ use Rattle.flat.proofs.Places.{ported_first, ported_none, ported_second, ported_
 use Rattle.flat.proofs.steps.put_ports.Goals as goal
 
 pub loop-j-init : goal.loop-j-init
-loop-j-init c = (omega arith, ported_none _ _ c.requires.blank)
+loop-j-init c = ported_none _ _ c.requires.blank
 
 pub bounds-sides-j : goal.bounds-sides-j
 bounds-sides-j c = omega (arith, c.requires.room)
@@ -18,7 +18,7 @@ offset_bounds-ports-i c = omega (arith, c.requires.within c.loop-j.j (omega arit
 pub bounds-ports-i : goal.bounds-ports-i
 bounds-ports-i c = let c-loop = c.loop-j in
     let c-pre = c.requires in
-    omega (arith, c-pre.within c-loop.j (omega arith), c-loop.invariant.1.same)
+    omega (arith, c-pre.within c-loop.j (omega arith), c-loop.invariant.same)
 
 pub overflow_cast-ports : goal.overflow_cast-ports
 overflow_cast-ports c = omega (arith, c.requires.few)
@@ -31,12 +31,12 @@ offset_bounds-ports-i-then-ports-i-eq0 c = let c-loop = c.loop-j in
 pub bounds-ports-i-then-ports-i-eq0 : goal.bounds-ports-i-then-ports-i-eq0
 bounds-ports-i-then-ports-i-eq0 c = let c-loop = c.loop-j in
     let c-pre = c.requires in
-    omega (arith, c-pre.within c-loop.j (omega arith), c-loop.invariant.1.same)
+    omega (arith, c-pre.within c-loop.j (omega arith), c-loop.invariant.same)
 
 pub loop-j-preserved-then-ports-i-eq0 : goal.loop-j-preserved-then-ports-i-eq0
 loop-j-preserved-then-ports-i-eq0 c = let c-loop = c.loop-j in
     let c-pre = c.requires in
-    (omega arith, ported_first c-loop.invariant.1 _ refl (c-pre.within c-loop.j (omega arith)) c.if-ports-i-eq0.true)
+    ported_first c-loop.invariant _ refl (c-pre.within c-loop.j (omega arith)) c.if-ports-i-eq0.true
 
 pub overflow_cast-ports-in-loop-j : goal.overflow_cast-ports-in-loop-j
 overflow_cast-ports-in-loop-j c = omega (arith, c.requires.few)
@@ -52,15 +52,15 @@ offset_bounds-ports-i-in-loop-j c = let c-loop = c.loop-j in
 pub bounds-ports-i-in-loop-j : goal.bounds-ports-i-in-loop-j
 bounds-ports-i-in-loop-j c = let c-loop = c.loop-j in
     let c-pre = c.requires in
-    omega (arith, c-pre.within c-loop.j (omega arith), c-loop.invariant.1.same)
+    omega (arith, c-pre.within c-loop.j (omega arith), c-loop.invariant.same)
 
 pub loop-j-preserved : goal.loop-j-preserved
 loop-j-preserved c = let c-loop = c.loop-j in
     let c-pre = c.requires in
-    (omega arith, ported_second c-loop.invariant.1 _ refl (c-pre.within c-loop.j (omega arith)) c.if-ports-i-eq0.false)
+    ported_second c-loop.invariant _ refl (c-pre.within c-loop.j (omega arith)) c.if-ports-i-eq0.false
 
 pub shape_of-ports : goal.shape_of-ports
-shape_of-ports c = c.loop-j.invariant.1.same
+shape_of-ports c = c.loop-j.invariant.same
 
 pub returns : goal.returns
-returns c = ported_table c.loop-j.invariant.1 (omega arith)
+returns c = ported_table c.loop-j.invariant (omega arith)

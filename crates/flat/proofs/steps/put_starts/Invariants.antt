@@ -1,12 +1,7 @@
-use Prim.Native.Nat.{◌-◌, ◌≤◌}
 use mathlib.Core.Path.{◌≡◌}
-use lib.ListN.{length}
 use Rattle.counting.specs.Stored.{filled}
 use Rattle.grid.specs.Grid.{start}
 use Rattle.flat.proofs.steps.put_starts.Given as goal
 
 abbrev pub invariant-loop-e : goal.invariant-loop-e
-invariant-loop-e l = (l.e ≤ length l.counts) × (l.s ≡ start l.counts l.e) × (l.starts ≡ filled (start l.counts) l.e l.initial.starts)
-
-abbrev pub decreases-loop-e : goal.decreases-loop-e
-decreases-loop-e l = length l.counts - l.e
+invariant-loop-e l = record { sum : l.s ≡ start l.counts l.e; stored : l.starts ≡ filled (start l.counts) l.e l.initial.starts }

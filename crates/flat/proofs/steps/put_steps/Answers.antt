@@ -21,7 +21,7 @@ put_all-requires c = let c-put-starts = c.put_starts in
 
 pub shape_of-next : goal.shape_of-next
 shape_of-next c = let c-args = c.args in
-    ap length c.put_all.ensures ∙ length_filled (dart_step c-args.counts.now c-args.sides.now c-args.n) c-args.darts c-args.next.now
+    ap length c.put_all.ensures ∙ length_filled (dart_step c-args.counts.now c-args.sides.now (length c-args.sides.now)) c-args.darts c-args.next.now
 
 pub returns : goal.returns
 returns c = c.put_all.ensures

@@ -1,9 +1,8 @@
 use native.Mathlib.Omega.{arith}
-use mathlib.Core.Path.{◌∙◌}
 use Rattle.face.proofs.Ends.{high_end, low_end}
 use Rattle.flat.proofs.Tables.{place_in, place_read}
 use Rattle.flat.proofs.Guided.{corners_with, guide_made, place_edge}
-use Rattle.flat.proofs.guides.guide_at.Goals as goal
+use Rattle.flat.proofs.guides.Tables.guide_at.Goals as goal
 
 pub overflow_mul-b : goal.overflow_mul-b
 overflow_mul-b c = omega (arith, c.requires.j_lt_n, c.requires.tabled.places.few)
@@ -38,18 +37,17 @@ lane_at-high-requires c = let c-flat-corners = c.flat_corners-c in
     let c-pre = c.requires in
     record { tabled = c-pre.tabled; b_bound = place_in c-pre.tabled _ 2 c-pre.j_lt_n (omega arith); c_value = corners_with c-pre.tabled _ c-count-at.ensures c-count-at2.ensures c-count-at3.ensures c-flat-corners.ensures; end = high_end c.upper_end.ensures.0 (place_edge c-pre.tabled _ c-pre.j_lt_n) }
 
-pub count_at-requires : goal.count_at-requires
-count_at-requires c = let c-pre = c.requires in record { j_in_bounds = (place_read c-pre.tabled _ c-pre.j_lt_n).0; j_in_bounds_2 = (place_read c-pre.tabled _ c-pre.j_lt_n).1 }
+pub count_at-count-requires : goal.count_at-count-requires
+count_at-count-requires c = let c-pre = c.requires in record { j_in_bounds = (place_read c-pre.tabled _ c-pre.j_lt_n).0; j_in_bounds_2 = (place_read c-pre.tabled _ c-pre.j_lt_n).1 }
 
 pub land-own-requires : goal.land-own-requires
 land-own-requires c = let c-pre = c.requires in record { tabled = c-pre.tabled; j_lt_n = c-pre.j_lt_n; t_bound = omega arith }
 
 pub returns : goal.returns
-returns c = let c-wide = c.wide16-count in
-    let c-count-at4 = c.count_at in
+returns c = let c-count-at4 = c.count_at-count in
     let c-lane-at2 = c.lane_at-high in
     let c-upper-end = c.upper_end in
     let c-lane-at = c.lane_at-low in
     let c-lower-end = c.lower_end in
     let c-pre = c.requires in
-    guide_made c-pre.tabled _ c-pre.j_lt_n _ c-lower-end.ensures.0 c-lane-at.ensures c-upper-end.ensures.0 c-lane-at2.ensures (c-wide.ensures.0 ∙ c-count-at4.ensures) c.land-own.ensures.value c.land-own.ensures.upper_bound
+    guide_made c-pre.tabled _ c-pre.j_lt_n _ c-lower-end.ensures.0 c-lane-at.ensures c-upper-end.ensures.0 c-lane-at2.ensures (c-count-at4.ensures) c.land-own.ensures.value c.land-own.ensures.upper_bound
