@@ -1,4 +1,5 @@
 -- The places call, where the grid check refuses and where it accepts.
+use Rattle.std.specs.Prelude.{Ok, Err}
 use Prim.Native.Nat.{ℕ, ◌<◌}
 use mathlib.Core.Path.{◌≡◌, sym, ap, ap₂, ◌∙◌}
 use mathlib.Core.Bool.{true}
@@ -8,14 +9,14 @@ use native.Mathlib.Omega.{arith}
 use lib.ListN.{length, get_or}
 use lib.Seq.{sets}
 use lib.Ieee.{Float}
-use Rattle.answer.specs.Answer.{result_of, is_result, refused}
+use Rattle.answer.specs.Answer.{result_of, is_result}
+use Rattle.answer.specs.Refusal.{refusal_numbers}
+use Rattle.answer.specs.declared.Refusal.{Refusal}
 use Rattle.counting.specs.Pick.{pick}
 use Rattle.counting.specs.Lists.{over, values}
 use Rattle.counting.proofs.Range.{over_ext}
 use Rattle.counting.proofs.Lists.{get_or_singles}
 use Rattle.cell.proofs.Fans.{below_all}
-use Rattle.grid.specs.declared.Checked.{Checked}
-use Rattle.grid.specs.declared.Checked.TheVariants.{Crossings, Refused}
 use Rattle.grid.specs.Check.{check_numbers}
 use Rattle.grid.specs.Grid.{Grid, cell_count, edge_number, count_of, start, crossings}
 use Rattle.slots.specs.Limits.{most_slots}
@@ -87,17 +88,13 @@ module _ (G : Grid) (nodes fractions : List Float) where
       → after ≡ places_area G nodes fractions before → Done G nodes fractions before after answer
   done before after answer a b = record { answered = a; area = b; exact = rw (a, b) (exact_case G nodes fractions before) }
 
-  pub refused_done : (r : Checked) (row place : ℕ) (area : List Float) → r ≡ Refused row place → check_numbers r ≡ grid_answer G
-      → Done G nodes fractions area area (refused row place)
+  pub refused_done : (r : Refusal) (area : List Float) → check_numbers (Err r) ≡ grid_answer G → Done G nodes fractions area area (refusal_numbers r)
   unfolding places_answer places_area placed
-  refused_done r row place area e q =
-      let n : check_numbers (Refused row place) ≡ grid_answer G = ap check_numbers (sym e) ∙ q in
-      let k = refused_keeps G row place n in
-      done area area (refused row place) (rw k n) (rw (k, k))
+  refused_done r area q = let k = refused_keeps G r q in done area area (refusal_numbers r) (rw k q) (rw (k, k))
 
-  module _ (r : Checked) (n : ℕ) (e : r ≡ Crossings n) (q : check_numbers r ≡ grid_answer G) where
+  module _ (n : ℕ) (q : check_numbers (Ok n) ≡ grid_answer G) where
     is-result : grid_answer G ≡ result_of (n ∷ [])
-    is-result = sym q ∙ ap check_numbers e
+    is-result = sym q
 
     accepted : accepts G ≡ true
     accepted = crossings_accept G n (sym is-result)

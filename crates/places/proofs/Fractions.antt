@@ -1,6 +1,7 @@
 -- Row 17, edge by edge.
+use Rattle.std.specs.Prelude.{Some, None}
 use Prim.Native.Nat.{ℕ, ◌+◌, ◌-◌, ◌≤◌, ◌<◌}
-use mathlib.Core.Path.{◌≡◌, sym, ap, ◌∙◌}
+use mathlib.Core.Path.{◌≡◌, ap, ◌∙◌}
 use mathlib.Core.Bool.{Bool, true, false, not}
 use mathlib.Core.List.{List}
 use native.Mathlib.Decide.{dec_lt}
@@ -8,8 +9,8 @@ use native.Mathlib.Omega.{arith}
 use lib.ListN.{length, get_or}
 use lib.Ieee.{Float, nan, lt}
 use borrow.Author.Tests.{lt-ltb}
-use Rattle.counting.specs.Search.{first}
-use Rattle.counting.proofs.Search.{first_le, first_is, first_below, first_at, none_first}
+use Rattle.counting.specs.Search.{found}
+use Rattle.counting.proofs.Search.{first_is, first_below, found_first, found_none, found_hit, found_end}
 use Rattle.counting.proofs.Pack.{col_pack, pre_le, pack_lt}
 use Rattle.grid.specs.Grid.{count_of, start, crossings}
 use Rattle.places.specs.Numbers.{proper_fraction}
@@ -49,37 +50,35 @@ module _ (counts : List ℕ) where
       unfolding bad_fraction index_of_crossing start
       fault_at i l = ap (bad_fraction_at fractions (start counts e + i)) (col_pack (count_of counts) (length counts) e i h l)
 
-      module _ (g n r : ℕ) (q : g ≡ start counts e) (m : n ≡ count_of counts e) (s : r ≡ first (λ i. bad_fraction_at fractions (g + i) i) n) (fine : Fine g) where
+      module _ (g n : ℕ) (q : g ≡ start counts e) (m : n ≡ count_of counts e) (fine : Fine g) where
         at_edge : (i : ℕ) → i < n → bad_fraction counts fractions (g + i) ≡ bad_fraction_at fractions (g + i) i
         at_edge i l = rw (q) (fault_at i (omega arith))
 
-        fault : ℕ → Bool
+        abbrev fault : ℕ → Bool
         fault i = bad_fraction_at fractions (g + i) i
 
-        before_r : Fine (g + r)
-        unfolding Fine fault
-        before_r x l = elim (dec_lt x g) [
+        -- the first k of the edge's crossings
+        before : (k : ℕ) → k ≤ n → ((i : ℕ) → i < k → fault i ≡ false) → Fine (g + k)
+        unfolding Fine
+        before k l none x h = elim (dec_lt x g) [
           | yes y ↦ fine x y
-          | no y ↦
-              let z : x ≡ g + (x - g) = omega arith in
-              let b : x - g < first fault n = omega (arith, s) in
-              ap (bad_fraction counts fractions) z ∙ at_edge (x - g) (omega (arith, first_le fault n)) ∙ first_below fault n (x - g) b
+          | no y ↦ let z : x ≡ g + (x - g) = omega arith in ap (bad_fraction counts fractions) z ∙ at_edge (x - g) (omega arith) ∙ none (x - g) (omega arith)
         ]
 
-        pub fault_found : r < n → g + r ≡ first (bad_fraction counts fractions) (crossings counts)
-        unfolding Fine fault
-        fault_found l =
-            sym (first_at (bad_fraction counts fractions) (crossings counts) (g + r) (omega (arith, crossing_lt e r h (omega arith)))
-            (at_edge r l ∙ ap fault s ∙ first_is fault n (omega arith)) before_r)
+        pub fault_found : (r : ℕ) → Some r ≡ found (λ i. bad_fraction_at fractions (g + i) i) n → Some (g + r) ≡ found (bad_fraction counts fractions) (crossings counts)
+        unfolding Fine
+        fault_found r s =
+            let w = found_first fault n r s in
+            found_hit (bad_fraction counts fractions) (crossings counts) (g + r) (omega (arith, crossing_lt e r h (omega (arith, w.1))))
+            (at_edge r w.1 ∙ ap fault w.0 ∙ first_is fault n (omega (arith, w.0, w.1))) (before r (omega (arith, w.1)) (λ i l. first_below fault n i (omega (arith, w.0))))
 
-        pub fine_on : n ≤ r → Fine (g + n)
-        unfolding Fine fault
-        fine_on l = let z : r ≡ n = omega (arith, s, first_le fault n) in λ x y. before_r x (omega arith)
+        pub fine_on : None ≡ found (λ i. bad_fraction_at fractions (g + i) i) n → Fine (g + n)
+        fine_on s = let w = found_none fault n s in before n (omega arith) (λ i l. first_below fault n i (omega (arith, w)))
 
     pub fine_none : Fine 0
     unfolding Fine
     fine_none x l = absurd (omega arith)
 
-    pub fine_end : (g : ℕ) → g ≡ crossings counts → Fine g → g ≡ first (bad_fraction counts fractions) (crossings counts)
+    pub fine_end : (g : ℕ) → g ≡ crossings counts → Fine g → None ≡ found (bad_fraction counts fractions) (crossings counts)
     unfolding Fine
-    fine_end g e fine = e ∙ sym (none_first (bad_fraction counts fractions) (crossings counts) (λ i l. fine i (omega arith)))
+    fine_end g e fine = found_end (bad_fraction counts fractions) (crossings counts) (λ i l. fine i (omega arith))

@@ -1,15 +1,18 @@
 -- Rows 15 to 17, as the code judges them.
+use Rattle.std.specs.Prelude.{Option, Some, None}
 use Prim.Native.Nat.{ℕ, suc, ◌*◌, ◌≤◌, ◌<◌}
 use mathlib.Core.Path.{◌≡◌, sym, ap, ◌∙◌}
 use mathlib.Core.Bool.{Bool, true, false}
 use mathlib.Core.List.{List, [], ◌∷◌}
 use native.Mathlib.Omega.{arith}
+use lib.Dec.{ltb}
 use lib.ListN.{length}
 use lib.Ieee.{Float}
 use borrow.Author.Tests.{lt-ltb, le-ltb, eq-eqb, ne_eqb}
 use Rattle.answer.specs.Answer.{result_of, refusal}
-use Rattle.answer.proofs.Rows.{row_passes, row_refuses, rows_end, whole_fault, whole_fine}
-use Rattle.counting.specs.Search.{first, last}
+use Rattle.answer.proofs.Rows.{row_passes, row_refuses, row_found, row_clear, rows_end, whole_fault, whole_fine}
+use Rattle.counting.specs.Pick.{pick}
+use Rattle.counting.specs.Search.{found, last}
 use Rattle.slots.specs.Limits.{highest_node}
 use Rattle.grid.specs.Grid.{crossings}
 use Rattle.place.specs.Place.{coordinates}
@@ -50,19 +53,19 @@ module _ (cells counts : List ℕ) (nodes fractions : List Float) (needed room :
   unfolding rows_answer place_rows
   row_15 h = row_refuses _ _ _ 0 (whole_fault _ h) (omega arith)
 
-  module _ (g : Bad false) (i : ℕ) (e : i ≡ first (bad_number cells nodes) (coordinates * node_end cells)) where
-    row_16 : i < coordinates * node_end cells → refusal 16 i ≡ answer
+  module _ (g : Bad false) where
+    row_16 : (i : ℕ) → Some i ≡ found (bad_number cells nodes) (coordinates * node_end cells) → refusal 16 i ≡ answer
     unfolding rows_answer place_rows
-    row_16 h = row_refuses _ _ _ i e h ∙ row_passes _ _ _ 1 (whole_fine _ g) (omega arith)
+    row_16 i e = row_found _ _ _ i e ∙ row_passes _ _ _ 1 (whole_fine _ g) (omega arith)
 
-    module _ (a : coordinates * node_end cells ≤ i) (x : ℕ) (f : x ≡ first (bad_fraction counts fractions) (crossings counts)) where
-      row_17 : x < crossings counts → refusal 17 x ≡ answer
+    module _ (e : None ≡ found (bad_number cells nodes) (coordinates * node_end cells)) where
+      row_17 : (x : ℕ) → Some x ≡ found (bad_fraction counts fractions) (crossings counts) → refusal 17 x ≡ answer
       unfolding rows_answer place_rows
-      row_17 h = row_refuses _ _ _ x f h ∙ row_passes _ _ _ i e a ∙ row_passes _ _ _ 1 (whole_fine _ g) (omega arith)
+      row_17 x f = row_found _ _ _ x f ∙ row_clear _ _ _ e ∙ row_passes _ _ _ 1 (whole_fine _ g) (omega arith)
 
-      no_row : crossings counts ≤ x → result_of (needed ∷ []) ≡ answer
+      no_row : None ≡ found (bad_fraction counts fractions) (crossings counts) → result_of (needed ∷ []) ≡ answer
       unfolding rows_answer place_rows
-      no_row h = rows_end _ ∙ row_passes _ _ _ x f h ∙ row_passes _ _ _ i e a ∙ row_passes _ _ _ 1 (whole_fine _ g) (omega arith)
+      no_row f = rows_end _ ∙ row_clear _ _ _ f ∙ row_clear _ _ _ e ∙ row_passes _ _ _ 1 (whole_fine _ g) (omega arith)
 
 -- the highest node, by the table
 module _ (cells counts : List ℕ) (n : ℕ) (J : Judgeable cells counts n) (used : List ℕ) (M : NodesMarked cells used) (end : ℕ) (e : end ≡ last (is_marked used) (length used)) where
@@ -91,22 +94,21 @@ module _ (cells counts : List ℕ) (n : ℕ) (J : Judgeable cells counts n) (use
         pub short_area : room < coordinates * needed → refusal 15 0 ≡ rows_answer cells counts nodes fractions needed room
         short_area h = row_15 cells counts nodes fractions needed room (area_bad cells counts nodes fractions needed room end n end_known J.all a b h)
 
-        module _ (d : coordinates * needed ≤ room) (i : ℕ) (f : i ≡ first (bad_marked used nodes) (coordinates * end)) where
+        module _ (d : coordinates * needed ≤ room) where
           good : bad_place_lists cells counts nodes fractions needed room ≡ false
           good = lists_good cells counts nodes fractions needed room end n end_known J.all a b d
 
-          number_known : i ≡ first (bad_number cells nodes) (coordinates * node_end cells)
-          number_known = f ∙ row_16_is cells used M nodes end end_small ∙ ap (λ k. first (bad_number cells nodes) (coordinates * k)) end_known
+          -- what is found by the table
+          number_known : {r : Option ℕ} → r ≡ found (bad_marked used nodes) (coordinates * end) → r ≡ found (bad_number cells nodes) (coordinates * node_end cells)
+          unfolding found
+          number_known f = f ∙ ap (λ x. pick (ltb x (coordinates * end)) (Some x) None) (row_16_is cells used M nodes end end_small) ∙ ap (λ k. found (bad_number cells nodes) (coordinates * k)) end_known
 
-          pub bad_number_found : i < coordinates * end → refusal 16 i ≡ rows_answer cells counts nodes fractions needed room
-          bad_number_found h = row_16 cells counts nodes fractions needed room good i number_known (omega (arith, end_known))
+          pub bad_number_found : (i : ℕ) → Some i ≡ found (bad_marked used nodes) (coordinates * end) → refusal 16 i ≡ rows_answer cells counts nodes fractions needed room
+          bad_number_found i f = row_16 cells counts nodes fractions needed room good i (number_known f)
 
-          module _ (l : coordinates * end ≤ i) (x : ℕ) (q : x ≡ first (bad_fraction counts fractions) (crossings counts)) where
-            within_all : coordinates * node_end cells ≤ i
-            within_all = omega (arith, end_known)
+          module _ (f : None ≡ found (bad_marked used nodes) (coordinates * end)) where
+            pub bad_fraction_found : (x : ℕ) → Some x ≡ found (bad_fraction counts fractions) (crossings counts) → refusal 17 x ≡ rows_answer cells counts nodes fractions needed room
+            bad_fraction_found x q = row_17 cells counts nodes fractions needed room good (number_known f) x q
 
-            pub bad_fraction_found : x < n → refusal 17 x ≡ rows_answer cells counts nodes fractions needed room
-            bad_fraction_found h = row_17 cells counts nodes fractions needed room good i number_known within_all x q (omega (arith, J.all))
-
-            pub none_found : n ≤ x → result_of (needed ∷ []) ≡ rows_answer cells counts nodes fractions needed room
-            none_found h = no_row cells counts nodes fractions needed room good i number_known within_all x q (omega (arith, J.all))
+            pub none_found : None ≡ found (bad_fraction counts fractions) (crossings counts) → result_of (needed ∷ []) ≡ rows_answer cells counts nodes fractions needed room
+            none_found q = no_row cells counts nodes fractions needed room good (number_known f) q

@@ -1,4 +1,5 @@
 -- All points of a grid from its tables: judged, and written.
+use Rattle.std.specs.Prelude.{Result, Ok, Err}
 use Prim.Native.Nat.{ℕ, ◌+◌, ◌*◌, ◌≤◌, ◌<◌}
 use mathlib.Core.Path.{◌≡◌, refl, sym, ap, ◌∙◌}
 use mathlib.Core.Bool.{true}
@@ -8,15 +9,14 @@ use native.Mathlib.Omega.{arith}
 use lib.ListN.{length, length-append}
 use lib.Seq.{sets, length-sets}
 use lib.Ieee.{Float}
-use Rattle.answer.proofs.Answer.{refused_not}
+use Rattle.answer.specs.declared.Refusal.{Refusal}
+use Rattle.answer.proofs.Numbers.{refusal_not}
 use Rattle.counting.specs.Lists.{total, values}
 use Rattle.counting.specs.work.Stored.{Stored}
 use Rattle.counting.proofs.Lists.{length_singles, get_or_singles}
 use Rattle.counting.proofs.Stored.{stored_as, stored_long}
 use Rattle.grid.specs.Grid.{crossings}
 use Rattle.place.specs.declared.Place.{Place}
-use Rattle.places.specs.declared.Placed.{Placed}
-use Rattle.places.specs.declared.Placed.TheVariants.{Points, Refused}
 use Rattle.place.specs.Place.{coordinates, place_at, all_numbers}
 use Rattle.places.specs.Points.{crossing_place}
 use Rattle.places.specs.Answer.{places_numbers, rows_answer}
@@ -28,7 +28,7 @@ use Rattle.split.specs.work.Spots.{cells_stored, inner_in, added_in, inner_at_ce
 use Rattle.places.specs.work.Work.{Placeable, table_inner, table_middles, table_points, rest_written, PlacesReady, PointsIn}
 use Rattle.place.proofs.Numbers.{length_numbers, front_place, points-then, place_kept}
 use Rattle.places.proofs.Middles.{length_inner, length_table, table_ext, inner_written, middles-written}
-use Rattle.places.proofs.Answers.{Fine, rows_fine, rows_some}
+use Rattle.places.proofs.Answers.{Fine, rows_fine}
 
 module _ (cells edges counts names sides starts : List ℕ) (nodes fractions : List Float) where
   abbrev place : ℕ → Place
@@ -65,7 +65,7 @@ module _ (cells edges counts names sides starts : List ℕ) (nodes fractions : L
         length_table cells counts names sides starts nodes place,
       )
 
-  module _ (n : ℕ) (R : PlacesReady cells counts names sides starts edges n) (before : List Float) (r : Placed) (m : ℕ)
+  module _ (n : ℕ) (R : PlacesReady cells counts names sides starts edges n) (before : List Float) (r : Result ℕ Refusal) (m : ℕ)
       (long : m ≡ n + (inner_sum + (table_fans cells counts names sides starts + added_sum)))
       (h : places_numbers r ≡ rows_answer cells counts nodes fractions m (length before)) where
     many : m ≡ length all
@@ -74,13 +74,10 @@ module _ (cells edges counts names sides starts : List ℕ) (nodes fractions : L
     answered : places_numbers r ≡ rows_answer cells counts nodes fractions (length all) (length before)
     answered = h ∙ ap (λ k. rows_answer cells counts nodes fractions k (length before)) many
 
-    pub refused_in : (row p : ℕ) → r ≡ Refused row p → PointsIn cells counts names sides starts edges nodes fractions before before (places_numbers r)
-    refused_in row p e = record {
-      answered = answered;
-      area = rw (refused_not (places_numbers r) (λ q. rows_some cells counts nodes fractions (length all) (length before) (q ∙ answered)) row p (ap places_numbers (sym e)));
-    }
+    pub refused_in : (x : Refusal) → r ≡ Err x → PointsIn cells counts names sides starts edges nodes fractions before before (places_numbers (Err x))
+    refused_in x e = record { answered = ap places_numbers (sym e) ∙ answered; area = rw (refusal_not x) }
 
-    module _ (k : ℕ) (e : r ≡ Points k) where
+    module _ (k : ℕ) (e : r ≡ Ok k) where
       fine : Fine cells counts nodes fractions (length all) (length before)
       fine = rows_fine cells counts nodes fractions (length all) (length before) (k ∷ []) (sym answered ∙ ap places_numbers e)
 
@@ -137,7 +134,7 @@ module _ (cells edges counts names sides starts : List ℕ) (nodes fractions : L
               )
 
           points-stored : {after : List Float} {next : ℕ} → (after, next) ≡ cells_stored (middles_at_cell cells counts names sides starts nodes) on j (drawn_cells cells)
-              → PointsIn cells counts names sides starts edges nodes fractions before after (places_numbers r)
+              → PointsIn cells counts names sides starts edges nodes fractions before after (places_numbers (Ok k))
           unfolding table_points
           points-stored {after} q =
               let s = length_singles place (crossings counts) 0 in
@@ -145,13 +142,13 @@ module _ (cells edges counts names sides starts : List ℕ) (nodes fractions : L
               let w : after ≡ sets before 0 (all_numbers all) =
               (points-then crossing_places (inner ++ mids) (record { area = f; after = omega (arith, s, length_numbers crossing_places, R.judged.all) })
               (points-then inner mids S (stored_as T (ap all_numbers mids_same) refl))).area in
-              record { answered = answered; area = w ∙ rw (ap places_numbers e) }
+              record { answered = ap places_numbers (sym e) ∙ answered; area = w }
 
         inner_room : coordinates * (n + length inner) ≤ length mid
         inner_room = omega (arith, room, R.judged.all, same, length_inner cells counts names sides starts nodes)
 
         pub points_in : (after : List Float) {next : ℕ} → (after, next) ≡ rest_written cells counts names sides starts nodes mid n
-            → PointsIn cells counts names sides starts edges nodes fractions before after (places_numbers r)
+            → PointsIn cells counts names sides starts edges nodes fractions before after (places_numbers (Ok k))
         unfolding rest_written
         points_in after q =
             let w = cells_stored (inner_at_cell cells counts names sides starts nodes) mid n (drawn_cells cells) in

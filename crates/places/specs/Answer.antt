@@ -1,21 +1,20 @@
 -- The answer of the places call, and the lent area after it.
-use Rattle.std.specs.Prelude.{ℕ, ◌*◌, Bool, List, [], ◌∷◌, length, Float}
+use Rattle.std.specs.Prelude.{ℕ, ◌*◌, Bool, Result, List, [], ◌∷◌, length, Float}
 use Rattle.std.proofs.lemmas.List.Edits.{sets}
-use Rattle.answer.specs.Answer.{result_of, is_result, refused}
+use Rattle.answer.specs.Answer.{result_of, is_result}
+use Rattle.answer.specs.Refusal.{answer_numbers}
+use Rattle.answer.specs.declared.Refusal.{Refusal}
 use Rattle.answer.specs.Rows.{Row, whole, each, answer_of}
 use Rattle.counting.specs.Pick.{pick}
 use Rattle.grid.specs.Grid.{Grid, crossings}
 use Rattle.grid.specs.Rows.{grid_answer, accepts}
-use Rattle.places.specs.declared.Placed.{Placed}
-use Rattle.places.specs.declared.Placed.TheVariants.{Points, Refused}
 use Rattle.place.specs.Place.{coordinates, all_numbers}
 use Rattle.places.specs.Points.{points}
 use Rattle.places.specs.Rows.{node_end, bad_place_lists, bad_number, bad_fraction}
 
 -- the call's answer as the numbers of 01
-abbrev pub places_numbers : Placed → List ℕ
-places_numbers (Points n) = result_of (n ∷ [])
-places_numbers (Refused row place) = refused row place
+abbrev pub places_numbers : Result ℕ Refusal → List ℕ
+places_numbers = answer_numbers (λ n. n ∷ [])
 
 module _ (cells counts : List ℕ) (nodes fractions : List Float) (needed room : ℕ) where
   -- the rows 15, 16 and 17, for so many points and an area of `room` numbers

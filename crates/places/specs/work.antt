@@ -1,2 +1,3 @@
 -- What only contracts of parts and proofs cite.
 pub mod Work
+pub mod Tables

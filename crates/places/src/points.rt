@@ -8,7 +8,6 @@ ghost use Rattle.place.specs.Place.{coordinates, all_numbers};
 ghost use Rattle.places.specs.Points.{crossing_place};
 ghost use Rattle.places.specs.work.Work.{on_edge, Fitting, Placeable};
 
-use counting::wide16;
 use place::Place;
 
 // Writes the places of n crossings between u and v, the first of which has the number g.
@@ -16,12 +15,10 @@ fn place_edge(u: Place, v: Place, fractions: &[f64], area: &mut [f64], n: usize,
     requires { Fitting fractions.now area.old n g }
     ensures { Stored area.old (coordinates * g) (all_numbers (on_edge u v fractions.now n g)) area.new (coordinates * (g + n)) }
 {
-    let mut i = 0;
-    while i < n {
+    for i in 0..n {
         let q = g + i;
         let p = place::interpolate(u, v, fractions[q]);
         place::store(area, q, p);
-        i += 1;
     }
 }
 
@@ -37,13 +34,11 @@ pub(crate) fn place_crossings(
     ensures { area.new ≡ sets area.old 0 (all_numbers (values (crossing_place edges.now counts.now nodes.now fractions.now) (crossings counts.now))) }
 {
     let mut g = 0;
-    let mut e = 0;
-    while e < counts.len() {
-        let u = place::load(nodes, wide16(edges[2 * e]));
-        let v = place::load(nodes, wide16(edges[2 * e + 1]));
-        let n = wide16(counts[e]);
+    for e in 0..counts.len() {
+        let u = place::load(nodes, edges[2 * e] as usize);
+        let v = place::load(nodes, edges[2 * e + 1] as usize);
+        let n = counts[e] as usize;
         place_edge(u, v, fractions, area, n, g);
         g += n;
-        e += 1;
     }
 }

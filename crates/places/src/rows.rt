@@ -1,14 +1,14 @@
 // Rows 15, 16 and 17: the lists' lengths, the numbers of the nodes' places, and the fractions.
 ghost use Rattle.std.specs.Prelude.{◌≡◌, ◌+◌, ◌*◌, ◌/◌, ◌≤◌, ◌<◌, length};
-ghost use Rattle.counting.specs.Search.{first, last};
+ghost use Rattle.counting.specs.Search.{found, last};
 ghost use Rattle.grid.specs.Grid.{crossings};
 ghost use Rattle.place.specs.Place.{coordinates};
 ghost use Rattle.places.specs.Rows.{bad_fraction_at, bad_fraction};
 ghost use Rattle.places.specs.Answer.{places_numbers, rows_answer};
 ghost use Rattle.places.specs.work.Work.{Markable, NodesMarked, is_marked, bad_marked, Reaching, Judgeable, most_points};
 
-use super::{Placed, is_proper};
-use counting::wide16;
+use super::is_proper;
+use answer::{Refusal, Row};
 use grid::HIGHEST_NODE;
 
 // Marks the nodes of the cells.
@@ -16,24 +16,19 @@ pub(crate) fn mark(cells: &[u16], used: &mut [u8])
     requires { Markable cells.now used.old }
     ensures { NodesMarked cells.now used.new }
 {
-    let mut j = 0;
-    while j < cells.len() {
-        let v = wide16(cells[j]);
-        used[v] = 1;
-        j += 1;
+    for &v in cells {
+        used[v as usize] = 1;
     }
 }
 
-// One more than the highest marked node, or 0.
+// One more than the highest marked node; 0 where none is marked, as the length of a list.
 pub(crate) fn marked_end(used: &[u8]) -> usize
     ensures { result ≡ last (is_marked used.now) (length used.now) }
 {
-    let mut n = used.len();
-    while 0 < n {
-        if used[n - 1] == 1 {
-            return n;
+    for v in (0..used.len()).rev() {
+        if used[v] == 1 {
+            return v + 1;
         }
-        n -= 1;
     }
     0
 }
@@ -43,27 +38,20 @@ fn bad_number(used: &[u8], nodes: &[f64], i: usize) -> bool
     requires i_in_bounds { i < length nodes.now }
     ensures { result ≡ bad_marked used.now nodes.now i }
 {
-    let v = i / 3;
-    if used[v] == 1 {
-        return !place::is_within(nodes[i]);
-    }
-    false
+    used[i / 3] == 1 && !place::is_within(nodes[i])
 }
 
-// The lowest number of a marked node's place, of the first n nodes, that is not within the limit; 3 n where there is none.
-pub(crate) fn row_16(used: &[u8], nodes: &[f64], n: usize) -> usize
+// The lowest number of a marked node's place, of the first n nodes, that is not within the limit.
+pub(crate) fn row_16(used: &[u8], nodes: &[f64], n: usize) -> Option<usize>
     requires { Reaching used.now nodes.now n }
-    ensures { result ≡ first (bad_marked used.now nodes.now) (coordinates * n) }
+    ensures { result ≡ found (bad_marked used.now nodes.now) (coordinates * n) }
 {
-    let m = 3 * n;
-    let mut i = 0;
-    while i < m {
+    for i in 0..3 * n {
         if bad_number(used, nodes, i) {
-            return i;
+            return Some(i);
         }
-        i += 1;
     }
-    m
+    None
 }
 
 // Whether fraction g, of a crossing with this index, is at fault.
@@ -72,47 +60,35 @@ fn bad_fraction(fractions: &[f64], g: usize, index: usize) -> bool
     requires index_le_g { index ≤ g }
     ensures { result ≡ bad_fraction_at fractions.now g index }
 {
-    if !is_proper(fractions[g]) {
-        return true;
-    }
-    if index == 0 {
-        return false;
-    }
-    !(fractions[g - 1] < fractions[g])
+    !is_proper(fractions[g]) || index != 0 && !(fractions[g - 1] < fractions[g])
 }
 
-// The lowest index of a faulty fraction among the n of an edge, which start at g; n where there is none.
-fn bad_on_edge(fractions: &[f64], g: usize, n: usize) -> usize
+// The lowest index of a faulty fraction among the n of an edge, which start at g.
+fn bad_on_edge(fractions: &[f64], g: usize, n: usize) -> Option<usize>
     requires { g + n ≤ length fractions.now }
-    ensures { result ≡ first (λ i. bad_fraction_at fractions.now (g + i) i) n }
+    ensures { result ≡ found (λ i. bad_fraction_at fractions.now (g + i) i) n }
 {
-    let mut i = 0;
-    while i < n {
+    for i in 0..n {
         if bad_fraction(fractions, g + i, i) {
-            return i;
+            return Some(i);
         }
-        i += 1;
     }
-    n
+    None
 }
 
-// The lowest crossing with a faulty fraction; the number of crossings where there is none.
-pub(crate) fn row_17(counts: &[u16], fractions: &[f64]) -> usize
+// The lowest crossing with a faulty fraction.
+pub(crate) fn row_17(counts: &[u16], fractions: &[f64]) -> Option<usize>
     requires { length fractions.now ≡ crossings counts.now }
-    ensures { result ≡ first (bad_fraction counts.now fractions.now) (crossings counts.now) }
+    ensures { result ≡ found (bad_fraction counts.now fractions.now) (crossings counts.now) }
 {
     let mut g = 0;
-    let mut e = 0;
-    while e < counts.len() {
-        let n = wide16(counts[e]);
-        let i = bad_on_edge(fractions, g, n);
-        if i < n {
-            return g + i;
+    for &n in counts {
+        if let Some(i) = bad_on_edge(fractions, g, n as usize) {
+            return Some(g + i);
         }
-        g += n;
-        e += 1;
+        g += n as usize;
     }
-    g
+    None
 }
 
 // Rows 15, 16 and 17, for n crossings, so many points, and an area of `room` numbers. Keeps 4 KB on the stack.
@@ -124,7 +100,7 @@ pub(crate) fn judge(
     n: usize,
     points: usize,
     room: usize,
-) -> Placed
+) -> Result<u64, Refusal>
     requires judgeable { Judgeable cells.now counts.now n }
     requires points_le_most_points { points ≤ most_points }
     ensures { places_numbers result ≡ rows_answer cells.now counts.now nodes.now fractions.now points room }
@@ -132,22 +108,14 @@ pub(crate) fn judge(
     let mut used = [0u8; HIGHEST_NODE + 1];
     mark(cells, &mut used);
     let end = marked_end(&used);
-    if nodes.len() < 3 * end {
-        return Placed::Refused(15, 0);
+    if nodes.len() < 3 * end || fractions.len() != n || room < 3 * points {
+        return Err(Row::PlaceLists.at(0));
     }
-    if fractions.len() != n {
-        return Placed::Refused(15, 0);
+    if let Some(i) = row_16(&used, nodes, end) {
+        return Err(Row::NodePlace.at(i));
     }
-    if room < 3 * points {
-        return Placed::Refused(15, 0);
+    if let Some(g) = row_17(counts, fractions) {
+        return Err(Row::Fraction.at(g));
     }
-    let i = row_16(&used, nodes, end);
-    if i < 3 * end {
-        return Placed::Refused(16, i);
-    }
-    let g = row_17(counts, fractions);
-    if g < n {
-        return Placed::Refused(17, g);
-    }
-    Placed::Points(points as u64)
+    Ok(points as u64)
 }

@@ -1,6 +1,7 @@
 -- What is claimed of the places call beside its contract.
-use Rattle.std.specs.Prelude.{ℕ, ◌*◌, ◌-◌, ◌<◌, ◌≡◌, true, false, not, ◌&&◌, List, ◌++◌, eqb, ltb, length, ℤ, Float}
+use Rattle.std.specs.Prelude.{ℕ, ◌*◌, ◌-◌, ◌<◌, ◌≡◌, true, false, not, ◌&&◌, Result, List, ◌++◌, eqb, ltb, length, ℤ, Float}
 use Rattle.answer.specs.Answer.{result_of}
+use Rattle.answer.specs.declared.Refusal.{Refusal}
 use Rattle.grid.specs.Grid.{Grid, cell_count, crossings}
 use Rattle.mesh.specs.Mesh.{grid_cell}
 use Rattle.counting.specs.Lists.{tally, over, values}
@@ -19,15 +20,14 @@ use Rattle.booking.specs.Booking.{left_between, larger, smaller, is_split}
 use Rattle.booking.specs.claims.Claims.{Other}
 use Rattle.split.specs.Parts.{Part, whole, corners}
 use Rattle.split.specs.Standing.{all_standing}
-use Rattle.places.specs.declared.Placed.{Placed}
 use Rattle.places.specs.Points.{crossing_place, points}
 use Rattle.places.specs.Answer.{places_numbers, places_answer}
 use Rattle.places.specs.Exact.{WholeAt}
 use Rattle.places.specs.Nested.{octagons, is_nested, axis_edge, nest_number, placed_middles}
 
--- the numbers tell the answer: no two values of the enum are read as the same answer of the call
+-- the numbers tell the answer: no two answers of the call are read as the same numbers
 abbrev pub PlacesTold : Type 0
-PlacesTold = (G : Grid) (nodes fractions : List Float) (room : ℕ) (r s : Placed)
+PlacesTold = (G : Grid) (nodes fractions : List Float) (room : ℕ) (r s : Result ℕ Refusal)
     → places_numbers r ≡ places_answer G nodes fractions room → places_numbers s ≡ places_answer G nodes fractions room → r ≡ s
 
 -- the exact case is not empty: an input that is not refused, with a crossing, and whole numbers for each crossing and number

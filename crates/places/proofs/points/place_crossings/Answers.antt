@@ -1,10 +1,10 @@
 use native.Mathlib.Omega.{arith}
-use mathlib.Core.Path.{◌≡◌, sym, ap, ◌∙◌}
+use mathlib.Core.Path.{◌≡◌, refl, sym, ap, ◌∙◌}
 use lib.ListN.{length}
 use lib.Seq.{sets}
 use Rattle.counting.specs.Lists.{values}
 use Rattle.counting.proofs.Stored.{stored_long}
-use Rattle.place.specs.Place.{place_at, all_numbers}
+use Rattle.place.specs.Place.{all_numbers}
 use Rattle.grid.specs.Grid.{start}
 use Rattle.grid.proofs.Crossings.{start_next, start_zero}
 use Rattle.places.specs.Points.{crossing_place}
@@ -13,7 +13,7 @@ use Rattle.places.proofs.Crossings.{all_none, all_more}
 use Rattle.places.proofs.points.place_crossings.Goals as goal
 
 pub loop-e-init : goal.loop-e-init
-loop-e-init c = (omega arith, sym (start_zero _), all_none c.args.edges.now c.args.counts.now c.args.nodes.now c.args.fractions.now c.args.area.now)
+loop-e-init c = (sym (start_zero _), all_none c.args.edges.now c.args.counts.now c.args.nodes.now c.args.fractions.now c.args.area.now)
 
 pub overflow_mul-e : goal.overflow_mul-e
 overflow_mul-e c = omega (arith, c.requires.pairs)
@@ -23,12 +23,6 @@ offset_bounds-edges-e c = omega (arith, c.requires.pairs)
 
 pub bounds-edges-e : goal.bounds-edges-e
 bounds-edges-e c = omega (arith, c.requires.pairs)
-
-pub wide16-requires : goal.wide16-requires
-wide16-requires c = tt
-
-pub load-u-requires : goal.load-u-requires
-load-u-requires c = tt
 
 pub overflow_mul-e-in-loop-e : goal.overflow_mul-e-in-loop-e
 overflow_mul-e-in-loop-e c = omega (arith, c.requires.pairs)
@@ -42,26 +36,17 @@ offset_bounds-edges-e-in-loop-e c = omega (arith, c.requires.pairs)
 pub bounds-edges-e-in-loop-e : goal.bounds-edges-e-in-loop-e
 bounds-edges-e-in-loop-e c = omega (arith, c.requires.pairs)
 
-pub wide16-requires-in-loop-e : goal.wide16-requires-in-loop-e
-wide16-requires-in-loop-e c = tt
-
-pub load-v-requires : goal.load-v-requires
-load-v-requires c = tt
-
-pub wide16-n-requires : goal.wide16-n-requires
-wide16-n-requires c = tt
-
 pub place_edge-requires : goal.place_edge-requires
-place_edge-requires c = let f = start_fits c.args.counts.now c.loop-e.e (omega arith) in record { given = omega (arith, c.loop-e.invariant.1, c.wide16-n.ensures.0, c.requires.given, f); room = omega (arith, c.loop-e.invariant.1, stored_long c.loop-e.invariant.2, c.wide16-n.ensures.0, c.requires.room, f) }
+place_edge-requires c = let f = start_fits c.args.counts.now c.loop-e.e (omega arith) in record { given = omega (arith, c.loop-e.invariant.0, c.requires.given, f); room = omega (arith, c.loop-e.invariant.0, stored_long c.loop-e.invariant.1, c.requires.room, f) }
 
 pub overflow_add-g : goal.overflow_add-g
-overflow_add-g c = let a = c.args in let l = c.loop-e in omega (arith, l.invariant.1, c.wide16-n.ensures.0, c.requires.given, c.well_formed.1.1.1.0.0, start_fits a.counts.now l.e (omega arith))
+overflow_add-g c = let a = c.args in let l = c.loop-e in omega (arith, l.invariant.0, c.requires.given, c.well_formed.1.1.1.0.0, start_fits a.counts.now l.e (omega arith))
 
 pub loop-e-preserved : goal.loop-e-preserved
-loop-e-preserved c = let l = c.loop-e in (omega arith, omega (arith, l.invariant.1, c.wide16-n.ensures.0, start_next c.args.counts.now l.e), all_more c.args.edges.now c.args.counts.now c.args.nodes.now c.args.fractions.now l.e l.g c.wide16-n.result l.invariant.2 (omega arith) l.invariant.1 c.wide16-n.ensures.0 (c.load-u.ensures ∙ ap (place_at c.args.nodes.now) c.wide16.ensures.0) (c.load-v.ensures ∙ ap (place_at c.args.nodes.now) c.wide16-in-loop-e.ensures.0) c.place_edge.ensures)
+loop-e-preserved c = let l = c.loop-e in (omega (arith, l.invariant.0, start_next c.args.counts.now l.e), all_more c.args.edges.now c.args.counts.now c.args.nodes.now c.args.fractions.now l.e l.g _ l.invariant.1 (omega arith) l.invariant.0 refl c.load-u.ensures c.load-v.ensures c.place_edge.ensures)
 
 pub shape_of-area : goal.shape_of-area
-shape_of-area c = stored_long c.loop-e.invariant.2
+shape_of-area c = stored_long c.loop-e.invariant.1
 
 pub returns : goal.returns
-returns c = let l = c.loop-e in let z : l.e ≡ length c.args.counts.now = omega arith in l.invariant.2.area ∙ ap (λ n. sets c.args.area.now 0 (all_numbers (values (crossing_place c.args.edges.now c.args.counts.now c.args.nodes.now c.args.fractions.now) n))) (l.invariant.1 ∙ ap (start c.args.counts.now) z)
+returns c = let l = c.loop-e in let z : l.e ≡ length c.args.counts.now = omega arith in l.invariant.1.area ∙ ap (λ n. sets c.args.area.now 0 (all_numbers (values (crossing_place c.args.edges.now c.args.counts.now c.args.nodes.now c.args.fractions.now) n))) (l.invariant.0 ∙ ap (start c.args.counts.now) z)

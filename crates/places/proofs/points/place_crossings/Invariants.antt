@@ -1,6 +1,5 @@
-use Prim.Native.Nat.{◌-◌, ◌*◌, ◌≤◌}
+use Prim.Native.Nat.{◌*◌}
 use mathlib.Core.Path.{◌≡◌}
-use lib.ListN.{length}
 use Rattle.counting.specs.Lists.{values}
 use Rattle.counting.specs.work.Stored.{Stored}
 use Rattle.place.specs.Place.{coordinates, all_numbers}
@@ -9,7 +8,4 @@ use Rattle.places.specs.Points.{crossing_place}
 use Rattle.places.proofs.points.place_crossings.Given as goal
 
 abbrev pub invariant-loop-e : goal.invariant-loop-e
-invariant-loop-e l = (l.e ≤ length l.counts) × (l.g ≡ start l.counts l.e) × Stored l.initial.area 0 (all_numbers (values (crossing_place l.edges l.counts l.nodes l.fractions) l.g)) l.area (coordinates * l.g)
-
-abbrev pub decreases-loop-e : goal.decreases-loop-e
-decreases-loop-e l = length l.counts - l.e
+invariant-loop-e l = (l.g ≡ start l.counts l.e) × Stored l.initial.area 0 (all_numbers (values (crossing_place l.edges l.counts l.nodes l.fractions) l.g)) l.area (coordinates * l.g)

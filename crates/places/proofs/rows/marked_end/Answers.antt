@@ -1,4 +1,5 @@
-use mathlib.Core.Path.{◌∙◌, ◌≡◌, refl, sym, ap}
+use Prim.Native.Nat.{◌+◌, ◌-◌}
+use mathlib.Core.Path.{◌∙◌, ◌≡◌, sym, ap}
 use native.Mathlib.Omega.{arith}
 use Rattle.counting.specs.Search.{last}
 use Rattle.counting.proofs.Search.{last_none}
@@ -6,14 +7,13 @@ use Rattle.places.specs.work.Work.{is_marked}
 use Rattle.places.proofs.Marks.{end_here, end_below}
 use Rattle.places.proofs.rows.marked_end.Goals as goal
 
-pub loop-n-init : goal.loop-n-init
-loop-n-init c = (omega arith, refl)
+pub returns-then-used-v-eq1 : goal.returns-then-used-v-eq1
+returns-then-used-v-eq1 c = let l = c.loop-v in
+    let e : l.v - 1 + 1 ≡ l.v = omega arith in
+    e ∙ sym (l.invariant ∙ end_here c.args.used.now l.v (omega arith) c.if-used-v-eq1.true)
 
-pub returns-then-used-n-eq1 : goal.returns-then-used-n-eq1
-returns-then-used-n-eq1 c = let l = c.loop-n in sym (l.invariant.1 ∙ end_here c.args.used.now l.n (omega arith) c.if-used-n-eq1.true)
-
-pub loop-n-preserved : goal.loop-n-preserved
-loop-n-preserved c = let l = c.loop-n in (omega arith, l.invariant.1 ∙ end_below c.args.used.now l.n (omega arith) c.if-used-n-eq1.false)
+pub loop-v-preserved : goal.loop-v-preserved
+loop-v-preserved c = let l = c.loop-v in l.invariant ∙ end_below c.args.used.now l.v (omega arith) c.if-used-v-eq1.false
 
 pub returns : goal.returns
-returns c = let l = c.loop-n in let z : l.n ≡ 0 = omega arith in let t = is_marked c.args.used.now in sym (l.invariant.1 ∙ ap (last t) z ∙ last_none t)
+returns c = let l = c.loop-v in let z : l.v ≡ 0 = omega arith in let t = is_marked c.args.used.now in sym (l.invariant ∙ ap (last t) z ∙ last_none t)
