@@ -1,12 +1,8 @@
 // The check of a flat grid, row by row.
-ghost use Rattle.std.specs.Prelude.{◌≡◌, ℕ, [], ◌∷◌, ◌-◌, ◌<◌, ◌≤◌, eqb, length, get_or, replicate, unwrap_or};
+ghost use Rattle.std.specs.Prelude.{◌≡◌, ℕ, ◌-◌, ◌<◌, ◌≤◌, eqb, length, get_or, replicate, unwrap_or};
 ghost use Rattle.counting.specs.Search.{found};
 ghost use Rattle.counting.specs.Stored.{filled};
-ghost use Rattle.answer.specs.Answer.{result_of};
-ghost use Rattle.answer.specs.Rows.{whole, answer_of};
 ghost use Rattle.grid.specs.Check.{check_numbers};
-ghost use Rattle.grid.specs.Grid.{crossings};
-ghost use Rattle.grid.specs.Rows.{too_many};
 ghost use Rattle.grid.specs.work.Work.{WhereAccepted};
 ghost use Rattle.flat.specs.Lent.{lent};
 ghost use Rattle.flat.specs.work.Work.{most_sides, SidesKnown, answer_from, PastRow2, PastRow3};
@@ -14,24 +10,12 @@ ghost use Rattle.flat.specs.Rows.{bad_pairs, flat_answer};
 
 use crate::{FlatGrid, MOST_SIDES, triangles};
 use answer::{Refusal, Row};
-use grid::MOST_CROSSINGS;
 
 fn row_2(edges: &[u16], counts: &[u16]) -> bool
     ensures value { result ≡ bad_pairs edges.now counts.now }
     ensures small { (i : ℕ) → get_or edges.now i 0 < 65536 }
 {
     edges.len() != 2 * counts.len()
-}
-
-// Row 10.
-fn last_row(counts: &[u16]) -> Result<u32, Refusal>
-    ensures { check_numbers result ≡ answer_of (whole 10 (too_many counts.now) ∷ []) (result_of (crossings counts.now ∷ [])) }
-{
-    let s = grid::total(counts);
-    if MOST_CROSSINGS < s {
-        return Err(Row::Crossings.at(0));
-    }
-    Ok(s)
 }
 
 // The lowest of the first n places with the entry 0. Takes 1 off the entries before it.
@@ -66,7 +50,7 @@ fn side_rows(grid: FlatGrid, sides: &mut [usize]) -> Result<u32, Refusal>
     if let Some(e) = stray {
         return Err(Row::EdgeStray.at(e));
     }
-    last_row(grid.counts)
+    grid::count_crossings(grid.counts)
 }
 
 // Rows 6 and 18, and those after them.

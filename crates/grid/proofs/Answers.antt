@@ -8,34 +8,23 @@ use native.Mathlib.Omega.{arith}
 use lib.Dec.{eqb, ltb}
 use lib.ListN.{length}
 use borrow.Author.Tests.{eqb-false, eqb-true, ltb-false, not-false}
-use Rattle.counting.specs.Search.{first, found}
+use Rattle.counting.specs.Search.{found}
 use Rattle.counting.proofs.Bools.{or_none}
 use Rattle.answer.specs.Answer.{refusal, result_of}
 use Rattle.answer.specs.Rows.{answer_of, whole}
 use Rattle.answer.specs.claims.Faults.{row_at}
 use Rattle.answer.specs.work.Faults.{since}
-use Rattle.answer.proofs.Rows.{row_clear, row_found, row_passes, row_refuses, rows_end, whole_fault, whole_fine}
+use Rattle.answer.proofs.Rows.{row_clear, row_found, row_passes, row_refuses, whole_fault, whole_fine}
 use Rattle.grid.specs.Grid.{Grid, built, cell_count, crossings}
 use Rattle.slots.specs.Limits.{most_cells}
-use Rattle.grid.specs.Rows.{bad_length, bad_lists, grid_answer, rows}
+use Rattle.grid.specs.Rows.{bad_length, bad_lists, grid_answer, rows, too_many}
 use Rattle.grid.specs.work.Work.{Early, Neighbours, WhereAccepted, Worked, answer_from, answer_with, listed_at}
 use Rattle.counting.specs.work.Tables.{Table}
 use Rattle.answer.specs.Refusal.{refusal_numbers}
 use Rattle.answer.specs.declared.Refusal.{Refusal}
 use Rattle.grid.proofs.Starts.{built_is, lists_fine}
 
--- row n, and row m which follows it
-module _ (G : Grid) (n m : ℕ) (follows : since n (rows G) ≡ row_at (since n (rows G)) 0 ∷ since m (rows G))
-    (p : ℕ) (e : p ≡ first (row_at (since n (rows G)) 0).fault (row_at (since n (rows G)) 0).places) where
-  pub answer_passes : (row_at (since n (rows G)) 0).places ≤ p → answer_from m G ≡ answer_from n G
-  unfolding answer_from
-  answer_passes l = row_passes (row_at (since n (rows G)) 0) (since m (rows G)) _ p e l ∙ ap (λ r. answer_of r (result_of (crossings G.counts ∷ []))) (sym follows)
-
-  pub answer_refuses : p < (row_at (since n (rows G)) 0).places → refusal (row_at (since n (rows G)) 0).number p ≡ answer_from n G
-  unfolding answer_from
-  answer_refuses l = row_refuses (row_at (since n (rows G)) 0) (since m (rows G)) _ p e l ∙ ap (λ r. answer_of r (result_of (crossings G.counts ∷ []))) (sym follows)
-
--- the same where the row's lowest fault is sought
+-- row n, whose lowest fault is sought, and row m which follows it
 module _ (G : Grid) (n m : ℕ) (follows : since n (rows G) ≡ row_at (since n (rows G)) 0 ∷ since m (rows G)) where
   pub answer_found : (p : ℕ) → Some p ≡ found (row_at (since n (rows G)) 0).fault (row_at (since n (rows G)) 0).places
       → refusal (row_at (since n (rows G)) 0).number p ≡ answer_from n G
@@ -46,10 +35,10 @@ module _ (G : Grid) (n m : ℕ) (follows : since n (rows G) ≡ row_at (since n 
   unfolding answer_from
   answer_clear e = row_clear (row_at (since n (rows G)) 0) (since m (rows G)) _ e ∙ ap (λ r. answer_of r (result_of (crossings G.counts ∷ []))) (sym follows)
 
--- the end
-pub answer_end : (G : Grid) → result_of (crossings G.counts ∷ []) ≡ answer_from 11 G
+-- the last row
+pub answer_last : (G : Grid) → answer_of (whole 10 (too_many G.counts) ∷ []) (result_of (crossings G.counts ∷ [])) ≡ answer_from 10 G
 unfolding answer_from since rows
-answer_end G = rows_end _
+answer_last G = refl
 
 -- what row 1 leaves
 pub length_fine : (cells : List ℕ) → bad_length cells ≡ false → (length cells ≡ 4 * cell_count cells) × (0 < cell_count cells) × (cell_count cells ≤ most_cells)

@@ -2,22 +2,19 @@
 use Prim.Native.Nat.{ℕ, ◌+◌, ◌<◌, ◌≤◌}
 use mathlib.Core.Path.{◌≡◌, refl}
 use mathlib.Core.Logic.{⊎_elim}
-use mathlib.Core.Bool.{Bool, false, true}
+use mathlib.Core.Bool.{false, true}
 use mathlib.Core.List.{List}
 use native.Mathlib.Nat.{eq-or-lt_of_le}
 use native.Mathlib.Numerals.{add-one}
 use native.Mathlib.Omega.{arith}
-use lib.Dec.{ltb}
 use lib.ListN.{length, set}
 use lib.Seq.{get_or-set_other, get_or-set_same}
-use borrow.Author.Tests.{le-ltb, lt-ltb, ltb-false}
+use borrow.Author.Tests.{le-ltb, lt-ltb}
 use Rattle.counting.specs.Lists.{pre, total}
-use Rattle.counting.specs.Pick.{pick}
 use Rattle.counting.proofs.Pack.{pre_changed, pre_kept, pre_le, pre_next}
 use Rattle.grid.specs.Grid.{count_of, crossings, start}
 use Rattle.slots.specs.Limits.{most_crossings}
 use Rattle.grid.specs.Rows.{too_many}
-use Rattle.grid.specs.work.Shared.{capped}
 
 module _ (counts : List ℕ) where
   pub start_zero : start counts 0 ≡ 0
@@ -32,31 +29,14 @@ module _ (counts : List ℕ) where
   unfolding start
   start_mono d e h = ⊎_elim (λ (q : d ≡ e). rw q (omega arith)) (λ (l : d < e). omega (arith, pre_le (count_of counts) 0 d e l)) (eq-or-lt_of_le h)
 
-  pub capped_over : most_crossings < crossings counts → most_crossings + 1 ≡ capped counts
-  unfolding capped
-  capped_over h = rw (lt-ltb most_crossings (crossings counts) h)
+  -- row 10
+  pub too_many_is : most_crossings < crossings counts → too_many counts ≡ true
+  unfolding too_many
+  too_many_is h = lt-ltb most_crossings (crossings counts) h
 
-  pub capped_is : crossings counts ≤ most_crossings → crossings counts ≡ capped counts
-  unfolding capped
-  capped_is h = rw (le-ltb most_crossings (crossings counts) h)
-
-  -- what the cap tells
-  pub over_capped : most_crossings < capped counts → too_many counts ≡ true
-  unfolding capped too_many
-  over_capped h = go (ltb most_crossings (crossings counts)) refl h
-    where
-      go : (b : Bool) → ltb most_crossings (crossings counts) ≡ b → most_crossings < pick b (most_crossings + 1) (crossings counts) → b ≡ true
-      go true e f = refl
-      go false e f = absurd (omega (arith, ltb-false most_crossings (crossings counts) e))
-
-  pub fine_capped : capped counts ≤ most_crossings → (too_many counts ≡ false) × (capped counts ≡ crossings counts)
-  unfolding capped too_many
-  fine_capped h = go (ltb most_crossings (crossings counts)) refl h
-    where
-      go : (b : Bool) → ltb most_crossings (crossings counts) ≡ b → pick b (most_crossings + 1) (crossings counts) ≤ most_crossings
-          → (b ≡ false) × (pick b (most_crossings + 1) (crossings counts) ≡ crossings counts)
-      go true e f = absurd (omega arith)
-      go false e f = (refl, refl)
+  pub not_too_many : crossings counts ≤ most_crossings → too_many counts ≡ false
+  unfolding too_many
+  not_too_many h = le-ltb most_crossings (crossings counts) h
 
 -- one count is set: the starts up to its edge stay, and those after it change as the count does
 module _ (counts : List ℕ) (e x : ℕ) where

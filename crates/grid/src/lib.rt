@@ -1,16 +1,17 @@
 // The grid check: cells, edges, counts and starts of a grid; the calls that open a grid and set a count.
 #![tactic(auto)]
 
-ghost use Rattle.std.specs.Prelude.{◌≡◌, false, ◌*◌, ◌<◌, ◌≤◌, length};
-ghost use Rattle.grid.specs.Grid.{grid_of, cell_count};
+ghost use Rattle.std.specs.Prelude.{◌≡◌, [], ◌∷◌, false, ◌*◌, ◌<◌, ◌≤◌, length};
+ghost use Rattle.grid.specs.Grid.{grid_of, cell_count, crossings};
 ghost use Rattle.slots.specs.Limits.{most_cells, most_slots};
 ghost use Rattle.slots.specs.work.Limits.{most_edges};
-ghost use Rattle.grid.specs.Rows.{grid_answer, repeats};
+ghost use Rattle.grid.specs.Rows.{grid_answer, repeats, too_many};
 ghost use Rattle.counting.specs.Search.{found};
 ghost use Rattle.grid.specs.Check.{check_numbers};
 ghost use Rattle.grid.specs.Lent.{lent, rebuilt};
 ghost use Rattle.grid.specs.work.Held.{ComparableBy, EdgingBy, LowChained, SidingBy, Sized};
-ghost use Rattle.grid.specs.work.Shared.{capped};
+ghost use Rattle.answer.specs.Answer.{result_of};
+ghost use Rattle.answer.specs.Rows.{whole, answer_of};
 ghost use Rattle.grid.specs.work.Tables.{Laid};
 ghost use Rattle.grid.specs.Opening.{open_answer, open_starts};
 ghost use Rattle.grid.specs.Setting.{set_answer, set_counts, set_starts};
@@ -33,8 +34,6 @@ mod tables;
 pub use edges::{edge_order, row_18};
 pub use shared::{earlier_places, edge_places};
 pub use slots::{HIGHEST_NODE, MOST_CELLS, MOST_COUNT, MOST_CROSSINGS, MOST_EDGES, MOST_SLOTS};
-
-const TOO_MANY: u32 = MOST_CROSSINGS + 1;
 
 const NODES: usize = HIGHEST_NODE + 1;
 
@@ -64,18 +63,18 @@ pub struct Grid<'a> {
     pub starts: &'a [u32],
 }
 
-// The sum of the counts; 65,536 where it is more than 65,535.
-pub fn total(counts: &[u16]) -> u32
-    ensures { result ≡ capped counts.now }
+// Row 10, or the number of crossings.
+pub fn count_crossings(counts: &[u16]) -> Result<u32, Refusal>
+    ensures { check_numbers result ≡ answer_of (whole 10 (too_many counts.now) ∷ []) (result_of (crossings counts.now ∷ [])) }
 {
     let mut sum: u32 = 0;
-    for e in 0..counts.len() {
-        sum += counts[e] as u32;
+    for count in counts {
+        sum += *count as u32;
         if MOST_CROSSINGS < sum {
-            return TOO_MANY;
+            return Err(Row::Crossings.at(0));
         }
     }
-    sum
+    Ok(sum)
 }
 
 // Rows 9 and 10.
@@ -98,11 +97,7 @@ fn last_rows<const EDGES: usize, const CELLS: usize>(
     ) {
         return Err(Row::EdgeUnlinked.at(e));
     }
-    let sum = total(grid.counts);
-    if MOST_CROSSINGS < sum {
-        return Err(Row::Crossings.at(0));
-    }
-    Ok(sum)
+    count_crossings(grid.counts)
 }
 
 // Row 8, and those after it, where every edge of a cell is listed.

@@ -46,7 +46,7 @@ returns c = let P = c.requires in
     let r = unlisted_first _ P.rising P.small _ w _ v in
     let d = c.in_default.ensures in
     record {
-      result_value = c.last_row.ensures ∙ answer_last _ ∙ answer_clear _ 8 10 refl (row_8_is _ P P.small _ w long c.in_default-stray.ensures.value)
+      result_value = c.count_crossings.ensures ∙ answer_last _ ∙ answer_clear _ 8 10 refl (row_8_is _ P P.small _ w long c.in_default-stray.ensures.value)
           ∙ answer_clear _ 7 8 refl (block_none _ _ 3 _ (omega arith) r d.result_value);
-      where_accepted = where-accepted c.last_row.result (sided _ P.rising P.small _ w _ v _ (sym (found_none _ _ d.result_value)) (omega arith) d.sides_after);
+      where_accepted = where-accepted c.count_crossings.result (sided _ P.rising P.small _ w _ v _ (sym (found_none _ _ d.result_value)) (omega arith) d.sides_after);
     }
