@@ -6,14 +6,16 @@ use mathlib.Core.List.{List, [], ◌∷◌}
 use native.Mathlib.Omega.{arith}
 use lib.ListN.{length, take}
 use borrow.Author.Tests.{lt-ltb, le-ltb}
-use Rattle.answer.specs.Answer.{result_of, refusal}
+use Rattle.answer.specs.Answer.{result_of}
+use Rattle.answer.specs.Refusal.{row_number, refusal_numbers}
+use Rattle.answer.specs.declared.Refusal.{Refusal}
 use Rattle.counting.specs.work.Stored.{Stored}
 use Rattle.counting.proofs.Stored.{stored_long, stored_front}
 use Rattle.bundle.specs.work.Record.{cell_size, edge_size}
 use Rattle.bundle.specs.Record.{broken_row}
 use Rattle.bundle.specs.Bundle.{cell_nodes, edge_ends, bundle_answer, is_bundle, is_taken, read_answer, nodes_of, ends_of, counts_of, written_over, leaves}
 use Rattle.bundle.proofs.Fills.{length_nodes, length_ends, length_counts, bundle-size}
-use Rattle.bundle.proofs.Answers.{bundle-answer, accepted, accepted_cells, accepted_edges, refused, rejected, read_taken, read_lists, left_front}
+use Rattle.bundle.proofs.Answers.{bundle-answer, accepted, accepted_cells, accepted_edges, read_taken, read_lists, left_front}
 use Rattle.grid.specs.Grid.{built}
 use Rattle.listing.specs.Text.{refused_line}
 use Rattle.listing.specs.Listing.{most_bytes, grid_listing, bundle_listing, listing, Listed}
@@ -27,10 +29,6 @@ module _ (s : List ℕ) where
 
   abbrev taken : Bool
   taken = is_taken s (cell_nodes * cells_in_bundle) (edge_ends * edges_in_bundle) edges_in_bundle
-
-  -- a refusal of the bundle has the number of its row
-  broken : (n p : ℕ) → refusal n p ≡ bundle_answer s → n ≡ 0 → ⊥
-  broken n p h z = let r = refused s (rejected s n p h) in let q = r.is in let y : n ≡ r.row = cc in omega (arith, r.some)
 
   module _ (small : length s ≤ most_bytes) where
     -- the lists have room for any bundle
@@ -49,9 +47,9 @@ module _ (s : List ℕ) where
     listing_is = simp (le-ltb most_bytes (length s) small)
 
     -- what the reader refuses
-    pub read_refused : (n p : ℕ) → refusal n p ≡ answered → refused_line n p ≡ listing s
+    pub read_refused : (r : Refusal) → refusal_numbers r ≡ answered → refused_line (row_number r.row) r.place ≡ listing s
     unfolding bundle_listing
-    read_refused n p h = or_refusal n p (bundle_answer s) _ (broken n p (h ∙ read_is)) (h ∙ read_is) ∙ sym listing_is
+    read_refused r h = or_refusal r (bundle_answer s) _ (h ∙ read_is) ∙ sym listing_is
 
     -- what it reads
     module _ (c e : ℕ) (h : result_of (c ∷ e ∷ []) ≡ answered) where

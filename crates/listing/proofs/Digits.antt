@@ -7,6 +7,8 @@ use native.Mathlib.Omega.{arith}
 use native.Mathlib.Decide.{dec_lt}
 use lib.ListN.{length, length-append}
 use borrow.Author.Tests.{lt-ltb, le-ltb}
+use Rattle.std.specs.Fmt as Fmt
+use Rattle.std.proofs.lemmas.Fmt.{decimal_by_steps}
 use Rattle.listing.specs.Text.{digit, digits, decimal}
 use Rattle.listing.specs.work.Text.{longest}
 
@@ -67,3 +69,7 @@ decimal_64 n h = decimal_few 19 n (omega arith)
 
 pub decimal_32 : (n : ℕ) → n < 2 ^ 32 → length (decimal n) ≤ 10
 decimal_32 n h = decimal_few 9 n (omega arith)
+
+-- the library prints the same digits
+pub printed : (n : ℕ) → n < 2 ^ 64 → Fmt.decimal n ≡ decimal n
+printed = decimal_by_steps (λ n ds. ds ≡ decimal n) (λ n h. sym (decimal_one n h)) (λ n ds h q. ap (λ (x : List ℕ). x ++ (digit (n % 10) ∷ [])) q ∙ sym (decimal_last n h))

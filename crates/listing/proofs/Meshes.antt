@@ -7,9 +7,11 @@ use native.Mathlib.Omega.{arith}
 use lib.Dec.{leb}
 use lib.ListN.{length, get_or, drop, get_or-append}
 use lib.Seq.{sets}
-use borrow.Author.Tests.{leb-true, ne_eqb}
-use Rattle.answer.specs.Answer.{result_of, refusal, refused}
-use Rattle.answer.proofs.Answer.{refused_not, refused_numbers}
+use borrow.Author.Tests.{leb-true}
+use Rattle.answer.specs.Answer.{result_of, refusal}
+use Rattle.answer.specs.Refusal.{row_number, refusal_numbers}
+use Rattle.answer.specs.declared.Refusal.{Refusal}
+use Rattle.answer.proofs.Numbers.{refusal_not}
 use Rattle.counting.specs.Pick.{pick}
 use Rattle.counting.specs.Lists.{over}
 use Rattle.counting.proofs.Range.{over_ext}
@@ -18,7 +20,8 @@ use Rattle.grid.specs.Grid.{Grid, grid_of, built, cell_count, crossings}
 use Rattle.grid.specs.Rows.{grid_answer, accepts}
 use Rattle.grid.specs.Opening.{open_answer, open_starts}
 use Rattle.grid.proofs.Openings.{opens_built}
-use Rattle.grid.proofs.Claims.{accepted_is, never_empty}
+use Rattle.grid.proofs.Claims.{accepted_is}
+use Rattle.grid.proofs.Filled.{refused_keeps}
 use Rattle.cell.specs.declared.Triangle.{Triangle}
 use Rattle.cell.specs.Words.{word_count}
 use Rattle.cell.proofs.Storing.{length_all}
@@ -26,7 +29,6 @@ use Rattle.cell.proofs.Fits as writes
 use Rattle.mesh.specs.Room.{room_answer}
 use Rattle.mesh.specs.Mesh.{mesh_triangles, mesh_splits, mesh_words}
 use Rattle.mesh.specs.Answer.{mesh_answer, mesh_area}
-use Rattle.mesh.proofs.Claims.{mesh_some}
 use Rattle.listing.specs.Text.{refused_line, head, word_text, word_at, line}
 use Rattle.listing.specs.Listing.{area_triangles, or_refused, mesh_listing, grid_listing}
 
@@ -35,14 +37,9 @@ pub or_result : (values answer rest : List ℕ) → result_of values ≡ answer 
 unfolding or_refused
 or_result values answer rest h = rw (← h)
 
-pub or_refusal : (n p : ℕ) (answer rest : List ℕ) → (n ≡ 0 → ⊥) → refusal n p ≡ answer → refused_line n p ≡ or_refused answer rest
+pub or_refusal : (r : Refusal) (answer rest : List ℕ) → refusal_numbers r ≡ answer → refused_line (row_number r.row) r.place ≡ or_refused answer rest
 unfolding or_refused
-or_refusal n p answer rest z h = rw (← h) (simp (ne_eqb n 0 z))
-
--- a refusal as the enums are read: with the number 0 it has no reading
-pub or_numbers : (n p : ℕ) (answer rest : List ℕ) → ([] ≡ answer → ⊥) → refused n p ≡ answer → refused_line n p ≡ or_refused answer rest
-unfolding or_refused
-or_numbers n p answer rest some h = rw (refused_not answer some n p h, ← refused_numbers answer some n p h)
+or_refusal r answer rest h = rw (← h) (simp (refusal_not r))
 
 -- the words of triangles, stored at the front of an area, give the same lines
 module _ (words area : List ℕ) (n : ℕ) (fits : word_count * n ≤ length words) (room : length words ≤ length area) where
@@ -71,15 +68,14 @@ module _ (mesh : List Triangle) (splits t s : ℕ) (area : List ℕ) (h : result
 
 module _ (G : Grid) where
   -- what the mesh call refuses
-  pub mesh_refused : (n p : ℕ) → refused n p ≡ mesh_answer G (word_count * area_triangles) → refused_line n p ≡ grid_listing G
+  pub mesh_refused : (r : Refusal) → refusal_numbers r ≡ mesh_answer G (word_count * area_triangles) → refused_line (row_number r.row) r.place ≡ grid_listing G
   unfolding grid_listing
-  mesh_refused n p h = or_numbers n p _ (mesh_listing G) (mesh_some G (word_count * area_triangles)) h
+  mesh_refused r h = or_refusal r _ (mesh_listing G) h
 
   -- what the check refuses, the mesh call refuses
-  pub check_refused : (n p : ℕ) → refused n p ≡ grid_answer G → refused_line n p ≡ grid_listing G
+  pub check_refused : (r : Refusal) → refusal_numbers r ≡ grid_answer G → refused_line (row_number r.row) r.place ≡ grid_listing G
   unfolding grid_listing mesh_answer
-  check_refused n p h =
-      or_numbers n p _ (mesh_listing G) (mesh_some G (word_count * area_triangles)) (h ∙ rw (refused_not (grid_answer G) (never_empty G) n p h))
+  check_refused r h = or_refusal r _ (mesh_listing G) (h ∙ rw (refused_keeps G r h))
 
   -- an accepted grid
   module _ (x : ℕ) (h : result_of (x ∷ []) ≡ grid_answer G) where

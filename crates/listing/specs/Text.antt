@@ -1,5 +1,5 @@
 -- The text that meshlist prints (01), as bytes of ASCII.
-use Rattle.std.specs.Prelude.{ℕ, zero, suc, ◌+◌, ◌*◌, ◌/◌, ◌%◌, true, false, List, [], ◌∷◌, ◌++◌, ltb, eqb, get_or}
+use Rattle.std.specs.Prelude.{ℕ, zero, suc, codes, ◌+◌, ◌*◌, ◌/◌, ◌%◌, true, false, List, [], ◌∷◌, ◌++◌, ltb, eqb, get_or}
 use Rattle.counting.specs.Pick.{pick}
 use Rattle.counting.specs.Lists.{over}
 use Rattle.cell.specs.Words.{no_name, word_count}
@@ -22,27 +22,27 @@ unfoldable pub with_label : List ℕ → ℕ → List ℕ
 with_label label n = label ++ decimal n
 
 abbrev pub newline : List ℕ
-newline = 10 ∷ []
+newline = codes "\n"
 
--- "refused ", " at "
+-- before the numbers of a refusal
 abbrev pub refused_label : List ℕ
-refused_label = 114 ∷ 101 ∷ 102 ∷ 117 ∷ 115 ∷ 101 ∷ 100 ∷ 32 ∷ []
+refused_label = codes "refused "
 
 abbrev pub at_label : List ℕ
-at_label = 32 ∷ 97 ∷ 116 ∷ 32 ∷ []
+at_label = codes " at "
 
--- "cells ", " edges ", " crossings ", " triangles "
+-- and before those of a mesh
 abbrev pub cells_label : List ℕ
-cells_label = 99 ∷ 101 ∷ 108 ∷ 108 ∷ 115 ∷ 32 ∷ []
+cells_label = codes "cells "
 
 abbrev pub edges_label : List ℕ
-edges_label = 32 ∷ 101 ∷ 100 ∷ 103 ∷ 101 ∷ 115 ∷ 32 ∷ []
+edges_label = codes " edges "
 
 abbrev pub crossings_label : List ℕ
-crossings_label = 32 ∷ 99 ∷ 114 ∷ 111 ∷ 115 ∷ 115 ∷ 105 ∷ 110 ∷ 103 ∷ 115 ∷ 32 ∷ []
+crossings_label = codes " crossings "
 
 abbrev pub triangles_label : List ℕ
-triangles_label = 32 ∷ 116 ∷ 114 ∷ 105 ∷ 97 ∷ 110 ∷ 103 ∷ 108 ∷ 101 ∷ 115 ∷ 32 ∷ []
+triangles_label = codes " triangles "
 
 -- a refusal's line: refused N at P
 unfoldable pub refused_line : ℕ → ℕ → List ℕ
@@ -55,7 +55,7 @@ head cells edges crossings triangles =
 
 -- a blank and a word: its digits, or a dash for the word that stands for no crossing and no face
 unfoldable pub word_text : ℕ → List ℕ
-word_text w = (32 ∷ []) ++ pick (eqb w no_name) (45 ∷ []) (decimal w)
+word_text w = codes " " ++ pick (eqb w no_name) (codes "-") (decimal w)
 
 -- word j of triangle t
 unfoldable pub word_at : List ℕ → ℕ → ℕ → List ℕ
@@ -63,4 +63,4 @@ word_at words t j = word_text (get_or words (word_count * t + j) 0)
 
 -- the line of triangle t: T and its eleven words
 unfoldable pub line : List ℕ → ℕ → List ℕ
-line words t = (84 ∷ []) ++ over (word_at words t) word_count 0 ++ newline
+line words t = codes "T" ++ over (word_at words t) word_count 0 ++ newline

@@ -3,18 +3,18 @@
 
 ghost use Rattle.std.specs.Prelude.{◌≤◌, ◌≡◌, [], ◌∷◌, length};
 ghost use Rattle.answer.specs.Answer.{result_of};
-ghost use Rattle.counting.specs.work.Stored.{Stored};
 ghost use Rattle.grid.specs.Grid.{grid_of, built};
+ghost use Rattle.grid.specs.Lent.{lent};
 ghost use Rattle.grid.specs.Opening.{open_starts};
 ghost use Rattle.grid.specs.Rows.{grid_answer};
-ghost use Rattle.listing.specs.work.Listing.{room_bytes};
-ghost use Rattle.listing.specs.Listing.{grid_listing, Listed};
+ghost use Rattle.listing.specs.work.Listing.{room_bytes, Told};
+ghost use Rattle.listing.specs.Listing.{grid_listing, listing, Listed};
 
 use crate::lines::{HEAD_ROOM, LINE_ROOM};
-use bundle::{BROKEN_ROW, CELL_BYTES, CELL_NODES, Contents, EDGE_BYTES, EDGE_ENDS, END_BYTES};
+use answer::{Refusal, Row};
+use bundle::{CELL_BYTES, CELL_NODES, EDGE_BYTES, EDGE_ENDS, END_BYTES};
 use cell::WORD_COUNT;
-use grid::Checked;
-use mesh::Meshed;
+use grid::Grid;
 
 mod lines;
 mod text;
@@ -34,71 +34,70 @@ const AREA_WORDS: usize = WORD_COUNT * AREA_TRIANGLES;
 // Bytes for the longest listing: a first line of 116, and 1,489 lines of 123.
 pub const ROOM: usize = HEAD_ROOM + LINE_ROOM * AREA_TRIANGLES;
 
-// The listing of a grid that the check accepts with so many crossings. About 64 KB of stack, besides what `mesh::mesh` keeps.
-fn list_mesh(
-    nodes: &[u16],
-    ends: &[u16],
-    counts: &[u16],
-    starts: &[u32],
-    crossings: u32,
-    out: &mut [u8],
-) -> usize
-    requires { (result_of (crossings ∷ []) ≡ grid_answer (grid_of nodes.now ends.now counts.now starts.now)) × (room_bytes ≤ length out.old) }
-    ensures stored { Stored out.old 0 (grid_listing (grid_of nodes.now ends.now counts.now starts.now)) out.new result }
-    ensures few { result ≤ room_bytes }
+// The listing of a grid that the check accepts with so many crossings, or what the mesh call refuses. About 64 KB of stack, besides what `mesh::mesh` keeps.
+fn list_mesh(grid: Grid, crossings: u32, out: &mut [u8]) -> Result<usize, Refusal>
+    requires { (result_of (crossings ∷ []) ≡ grid_answer (lent grid)) × (room_bytes ≤ length out.old) }
+    ensures { Told (grid_listing (lent grid.entry)) out.old out.new result }
 {
     let mut area = [0u32; AREA_WORDS];
-    match mesh::mesh(nodes, ends, counts, starts, &mut area) {
-        Meshed::Refused(row, place) => lines::put_refused(out, row, place),
-        Meshed::Triangles(n, _) => {
-            let at = lines::put_head(out, nodes.len() / CELL_NODES, counts.len(), crossings, n);
-            lines::put_lines(out, at, &area, n)
-        }
-    }
+    let n = mesh::mesh(grid, &mut area)?.triangles;
+    let at = lines::put_head(
+        out,
+        grid.cells.len() / CELL_NODES,
+        grid.counts.len(),
+        crossings,
+        n,
+    );
+    Ok(lines::put_lines(out, at, &area, n))
 }
 
-// The listing of a grid that is opened here, with room for its starts.
+// The listing of a grid that is opened here, with room for its starts, or what is refused.
 fn list_grid(
     nodes: &[u16],
     ends: &[u16],
     counts: &[u16],
     starts: &mut [u32],
     out: &mut [u8],
-) -> usize
+) -> Result<usize, Refusal>
     requires { (length starts.old ≡ length counts.now) × (room_bytes ≤ length out.old) }
-    ensures stored { Stored out.old 0 (grid_listing (built nodes.now ends.now counts.now)) out.new result }
-    ensures few { result ≤ room_bytes }
+    ensures told { Told (grid_listing (built nodes.now ends.now counts.now)) out.old out.new result }
     ensures starts { starts.new ≡ open_starts (grid_of nodes.now ends.now counts.now starts.old) }
 {
-    match grid::open(nodes, ends, counts, starts) {
-        Checked::Refused(row, place) => lines::put_refused(out, row, place),
-        Checked::Crossings(x) => list_mesh(nodes, ends, counts, starts, x, out),
-    }
+    let crossings = grid::open(nodes, ends, counts, starts)?;
+    let grid = Grid {
+        cells: nodes,
+        edges: ends,
+        counts,
+        starts,
+    };
+    list_mesh(grid, crossings, out)
 }
 
-// Puts the listing of any bytes at the front of the area, and answers how many bytes it has. Keeps 57 KB on the stack, besides what `list_grid` keeps.
-pub fn list(bytes: &[u8], out: &mut [u8; ROOM]) -> usize
-    ensures { Listed bytes.now out.old out.new result }
+// The listing of a bundle, or what is refused. Keeps 57 KB on the stack, besides what `list_grid` keeps.
+fn list_bundle(bytes: &[u8], out: &mut [u8]) -> Result<usize, Refusal>
+    requires { room_bytes ≤ length out.old }
+    ensures { Told (listing bytes.now) out.old out.new result }
 {
     if MOST_BYTES < bytes.len() {
-        return lines::put_refused(out, BROKEN_ROW, MOST_BYTES);
+        return Err(Row::Records.at(MOST_BYTES));
     }
     let mut nodes = [0u16; CELL_NODES * CELLS_IN_BUNDLE];
     let mut ends = [0u16; EDGE_ENDS * EDGES_IN_BUNDLE];
     let mut counts = [0u16; EDGES_IN_BUNDLE];
     let mut starts = [0u32; EDGES_IN_BUNDLE];
-    match bundle::read(bytes, &mut nodes, &mut ends, &mut counts) {
-        Contents::Refused(row, place) => lines::put_refused(out, row, place),
-        Contents::Lists(cells, edges) => {
-            let n = CELL_NODES * cells;
-            let m = EDGE_ENDS * edges;
-            list_grid(
-                &nodes[..n],
-                &ends[..m],
-                &counts[..edges],
-                &mut starts[..edges],
-                out,
-            )
-        }
+    let lists = bundle::read(bytes, &mut nodes, &mut ends, &mut counts)?;
+    let n = CELL_NODES * lists.cells;
+    let m = EDGE_ENDS * lists.edges;
+    let e = lists.edges;
+    list_grid(&nodes[..n], &ends[..m], &counts[..e], &mut starts[..e], out)
+}
+
+// Puts the listing of any bytes at the front of the area, and answers how many bytes it has. What is refused is listed as one line.
+pub fn list(bytes: &[u8], out: &mut [u8; ROOM]) -> usize
+    ensures { Listed bytes.now out.old out.new result }
+{
+    match list_bundle(bytes, out) {
+        Ok(n) => n,
+        Err(refusal) => lines::put_refused(out, refusal),
     }
 }

@@ -1,5 +1,6 @@
 // The lines of a listing.
 ghost use Rattle.std.specs.Prelude.{◌+◌, ◌*◌, ◌≤◌, length};
+ghost use Rattle.answer.specs.Refusal.{row_number};
 ghost use Rattle.counting.specs.Lists.{over};
 ghost use Rattle.counting.specs.work.Stored.{Stored};
 ghost use Rattle.cell.specs.Words.{word_count};
@@ -7,6 +8,7 @@ ghost use Rattle.listing.specs.work.Text.{word_room, head_room, line_room};
 ghost use Rattle.listing.specs.Text.{refused_line, head, word_at, line};
 
 use crate::text::{LONGEST, WORD_ROOM, put, put_named, put_word};
+use answer::Refusal;
 use cell::WORD_COUNT;
 
 // The most bytes of the first line: 35 of labels, four numbers and a newline; and of a triangle's line.
@@ -15,13 +17,13 @@ pub(crate) const HEAD_ROOM: usize = 35 + 4 * LONGEST + 1;
 pub(crate) const LINE_ROOM: usize = 1 + WORD_COUNT * WORD_ROOM + 1;
 
 // The line of a refusal, at the front.
-pub(crate) fn put_refused(out: &mut [u8], row: u8, place: usize) -> usize
+pub(crate) fn put_refused(out: &mut [u8], refusal: Refusal) -> usize
     requires { head_room ≤ length out.old }
-    ensures stored { Stored out.old 0 (refused_line row place) out.new result }
+    ensures stored { Stored out.old 0 (refused_line (row_number refusal.row) refusal.place) out.new result }
     ensures few { result ≤ head_room }
 {
-    let a = put_named(out, 0, b"refused ", row as usize);
-    let b = put_named(out, a, b" at ", place);
+    let a = put_named(out, 0, b"refused ", refusal.row.number() as usize);
+    let b = put_named(out, a, b" at ", refusal.place);
     put(out, b, b"\n")
 }
 
@@ -51,10 +53,8 @@ fn put_words(out: &mut [u8], at: usize, area: &[u32], t: usize) -> usize
     ensures few { result ≤ at + word_count * word_room }
 {
     let mut end = at;
-    let mut j: usize = 0;
-    while j < WORD_COUNT {
+    for j in 0..WORD_COUNT {
         end = put_word(out, end, area[WORD_COUNT * t + j]);
-        j += 1;
     }
     end
 }
@@ -76,12 +76,9 @@ pub(crate) fn put_lines(out: &mut [u8], at: usize, area: &[u32], n: u64) -> usiz
     ensures stored { Stored out.old at (over (line area.now) n 0) out.new result }
     ensures few { result ≤ at + line_room * n }
 {
-    let last = n as usize;
     let mut end = at;
-    let mut t: usize = 0;
-    while t < last {
+    for t in 0..n as usize {
         end = put_line(out, end, area, t);
-        t += 1;
     }
     end
 }

@@ -5,6 +5,7 @@ ghost use Rattle.listing.specs.work.Text.{longest, word_room};
 ghost use Rattle.listing.specs.Text.{decimal, with_label, word_text};
 
 use cell::NO_NAME;
+use itoa::Buffer;
 
 // The most digits of a number of 64 bits; and the most bytes of a word of 32 bits and the blank before it.
 pub(crate) const LONGEST: usize = 20;
@@ -15,34 +16,17 @@ pub(crate) fn put(out: &mut [u8], at: usize, text: &[u8]) -> usize
     requires { at + length text.now ≤ length out.old }
     ensures { Stored out.old at text.now out.new result }
 {
-    let mut i: usize = 0;
-    while i < text.len() {
-        out[at + i] = text[i];
-        i += 1;
-    }
-    at + i
-}
-
-// A digit: 48 and the number.
-fn digit(d: usize) -> u8
-    requires { d ≤ 9 }
-    ensures { result ≡ 48 + d }
-{
-    48 + d as u8
+    let end = at + text.len();
+    out[at..end].copy_from_slice(text);
+    end
 }
 
 // The decimal digits of a number.
-pub(crate) fn put_number(out: &mut [u8], at: usize, n: usize) -> usize
+fn put_number(out: &mut [u8], at: usize, n: usize) -> usize
     requires { at + length (decimal n) ≤ length out.old }
     ensures { Stored out.old at (decimal n) out.new result }
 {
-    if n < 10 {
-        out[at] = digit(n);
-        return at + 1;
-    }
-    let end = put_number(out, at, n / 10);
-    out[end] = digit(n % 10);
-    end + 1
+    put(out, at, Buffer::new().format(n).as_bytes())
 }
 
 // A label and a number.

@@ -11,6 +11,7 @@ fn read_full<R: Read>(input: &mut R, area: &mut [u8]) -> usize
     ensures { result ≤ length area.new }
 {
     let mut done = 0;
+    // Stays: a while, since each read answers how far it came.
     while done < area.len() {
         match input.read(&mut area[done..]) {
             Ok(0) => break,

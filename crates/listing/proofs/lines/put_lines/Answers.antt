@@ -8,10 +8,10 @@ use Rattle.listing.proofs.lines.put_lines.Goals as goal
 
 pub loop-t-init : goal.loop-t-init
 unfolding over
-loop-t-init c = (search rules, search rules, search rules, search rules, stored_none _ _)
+loop-t-init c = (search rules, search rules, stored_none _ _)
 
 pub loop-t-preserved : goal.loop-t-preserved
-loop-t-preserved c = (search rules, search rules, search rules, search rules, stored_more (line c.args.area.now) _ c.loop-t.invariant.4 c.put_line-end.ensures.stored)
+loop-t-preserved c = (search rules, search rules, stored_more (line c.args.area.now) _ c.loop-t.invariant.2 c.put_line-end.ensures.stored)
 
 pub returns : goal.returns
-returns c = record { stored = stored_as c.loop-t.invariant.4 (ap (λ k. over (line c.args.area.now) k 0) (omega arith)) refl; few = search rules }
+returns c = record { stored = stored_as c.loop-t.invariant.2 (ap (λ k. over (line c.args.area.now) k 0) (omega arith)) refl; few = search rules }

@@ -1,4 +1,4 @@
-use Prim.Native.Nat.{◌+◌, ◌-◌, ◌*◌, ◌≤◌}
+use Prim.Native.Nat.{◌+◌, ◌*◌, ◌≤◌}
 use mathlib.Core.Path.{◌≡◌}
 use lib.ListN.{length}
 use Rattle.counting.specs.Lists.{over}
@@ -8,7 +8,4 @@ use Rattle.listing.specs.Text.{line}
 use Rattle.listing.proofs.lines.put_lines.Given as goal
 
 abbrev pub invariant-loop-t : goal.invariant-loop-t
-invariant-loop-t l = (l.t ≤ l.last) × (l.last ≡ l.n) × (length l.out ≡ length l.initial.out) × (l.end ≤ l.at + line_room * l.t) × Stored l.initial.out l.at (over (line l.area) l.t 0) l.out l.end
-
-abbrev pub decreases-loop-t : goal.decreases-loop-t
-decreases-loop-t l = l.last - l.t
+invariant-loop-t l = (length l.out ≡ length l.initial.out) × (l.end ≤ l.at + line_room * l.t) × Stored l.initial.out l.at (over (line l.area) l.t 0) l.out l.end

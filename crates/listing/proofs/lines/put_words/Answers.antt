@@ -8,11 +8,11 @@ use Rattle.listing.proofs.lines.put_words.Goals as goal
 
 pub loop-j-init : goal.loop-j-init
 unfolding over
-loop-j-init c = (search rules, search rules, search rules, stored_none _ _)
+loop-j-init c = (search rules, search rules, stored_none _ _)
 
 pub loop-j-preserved : goal.loop-j-preserved
 unfolding word_at
-loop-j-preserved c = (search rules, search rules, search rules, stored_more (word_at c.args.area.now c.args.t) _ c.loop-j.invariant.3 c.put_word-end.ensures.stored)
+loop-j-preserved c = (search rules, search rules, stored_more (word_at c.args.area.now c.args.t) _ c.loop-j.invariant.2 c.put_word-end.ensures.stored)
 
 pub returns : goal.returns
-returns c = record { stored = stored_as c.loop-j.invariant.3 (ap (λ k. over (word_at c.args.area.now c.args.t) k 0) (omega arith)) refl; few = search rules }
+returns c = record { stored = stored_as c.loop-j.invariant.2 (ap (λ k. over (word_at c.args.area.now c.args.t) k 0) (omega arith)) refl; few = search rules }

@@ -1,15 +1,19 @@
-use mathlib.Core.Path.{refl, sym}
-use native.Mathlib.Nat.{add-zero}
+use Prim.Native.Nat.{ℕ, ◌+◌}
+use mathlib.Core.Path.{refl, sym, ap, ◌∙◌}
+use mathlib.Core.List.{List, ◌++◌, append_assoc}
 use native.Mathlib.Omega.{arith}
-use borrow.Author.Rules.{rules}
-use Rattle.counting.proofs.Stored.{stored_none, stored_as, stored_entry, stored_all}
+use lib.ListN.{length, take, drop}
+use lib.Seq.{sets-eq}
+use borrow.Rule.Slice.PartMut.{Post-is}
 use Rattle.listing.proofs.text.put.Goals as goal
 
-pub loop-i-init : goal.loop-i-init
-loop-i-init c = (search rules, search rules, stored_as (stored_none _ _) refl (sym (add-zero _)))
-
-pub loop-i-preserved : goal.loop-i-preserved
-loop-i-preserved c = (search rules, search rules, stored_as (stored_entry _ _ 0 c.loop-i.invariant.2 c.loop-i-test.true) refl (omega arith))
-
 pub returns : goal.returns
-returns c = stored_all _ _ c.loop-i.invariant.2 c.loop-i-test.false
+returns c = let a = c.args in
+    let l = a.out.now in
+    let n = length a.text.now in record {
+      area = ap (λ (p : List ℕ). take a.at l ++ (c.copy_from_slice.new.self ++ p)) (Post-is a.at (a.at + n) l (omega arith))
+          ∙ ap (λ (y : List ℕ). take a.at l ++ (y ++ drop (a.at + n) l)) c.copy_from_slice.ensures.after
+          ∙ sym (append_assoc (take a.at l) a.text.now (drop (a.at + n) l))
+          ∙ sym (sets-eq a.text.now l a.at c.requires);
+      after = refl;
+    }
