@@ -215,15 +215,6 @@ module _ (counts sides : List ℕ) (n b : ℕ) where
         ]
 
 -- THE STEPS as the code takes them
-module _ (l : Lane) (k : ℕ) where
-  pub lane_down : l.down ≡ true → l.from - 2 * (k + 1) ≡ lane_step l k
-  unfolding lane_step
-  lane_down q = rw q
-
-  pub lane_up : l.down ≡ false → l.from + 2 * k ≡ lane_step l k
-  unfolding lane_step
-  lane_up q = rw q
-
 module _ (g : Guide) (darts t : ℕ) where
   pub step_off : g.count ≤ t → darts ≡ guide_step g darts t
   unfolding guide_step

@@ -6,20 +6,19 @@ use Rattle.counting.proofs.Positions.{position_found}
 use Prim.Native.Nat.{ℕ, ◌%◌, ◌*◌, ◌+◌, ◌-◌, ◌/◌, ◌<◌, ◌≤◌, min}
 use mathlib.Core.Path.{◌∙◌, ◌≡◌, ap, refl, sym}
 use mathlib.Core.Logic.{◌≢◌}
-use mathlib.Core.Bool.{Bool, ◌||◌, false, not, true}
+use mathlib.Core.Bool.{Bool, false, not, true}
 use mathlib.Core.List.{List}
 use native.Mathlib.Decide.{ℕ_discrete}
 use native.Mathlib.Omega.{arith}
-use lib.Dec.{eqb, leb, ltb}
+use lib.Dec.{eqb, ltb}
 use lib.ListN.{get_or, length, length-replicate, replicate, set}
 use lib.Seq.{sets}
-use borrow.Author.Tests.{eq-eqb, eqb-true, le-leb, le-ltb, lt-leb, lt-ltb, ltb-false, ne_eqb}
+use borrow.Author.Tests.{eq-eqb, eqb-true, le-ltb, lt-ltb, ne_eqb}
 use Rattle.counting.specs.Pick.{pick}
 use Rattle.counting.specs.Lists.{over, values}
 use Rattle.counting.specs.Stored.{filled}
 use Rattle.counting.specs.Search.{count, every, first, found, last, some}
-use Rattle.counting.proofs.Bools.{or_right}
-use Rattle.counting.proofs.Search.{AtMostOne, count_blocks, count_ext, count_none, count_plus, count_two, count_zero, first_blocks, first_ext, first_none, last_is, last_le, some_ext, some_found, some_last}
+use Rattle.counting.proofs.Search.{AtMostOne, count_blocks, count_ext, count_none, count_plus, count_two, count_zero, first_blocks, first_ext, first_none, last_is, last_le, some_ext, some_last}
 use Rattle.counting.proofs.Stored.{sets_more}
 use Rattle.slots.specs.Slots.{lower, upper}
 use Rattle.face.specs.claims.Ends.{Edge, on_ab, on_ac, on_bc}
@@ -34,43 +33,11 @@ use Rattle.grid.proofs.Blocks.{block_found, block_none, found_same}
 use Rattle.grid.proofs.Packed.{join_eqb}
 use Rattle.flat.specs.FlatGrid.{most_flat_triangles, node, same_edge, shares, triangles_in}
 use Rattle.flat.specs.Accepted.{SameEdge}
-use Rattle.flat.specs.Rows.{bad_length, bad_triangle, crowded, repeats, same_triangle}
+use Rattle.flat.specs.Rows.{bad_triangle, crowded, repeats, same_triangle}
 use Rattle.flat.specs.work.Work.{RisingTriangles, side_key, triangle_key, twice}
 use Rattle.flat.proofs.Accepts.{nodes_rise, same_true, triangle_fine}
 
--- row 1
-pub length_odd : (triangles : List ℕ) → (length triangles % 3 ≡ 0 → ⊥) → bad_length triangles ≡ true
-unfolding bad_length
-length_odd triangles h = rw (ne_eqb (length triangles % 3) 0 h)
-
-pub length_none : (triangles : List ℕ) → length triangles ≡ 0 → bad_length triangles ≡ true
-unfolding bad_length
-length_none triangles h = rw (eq-eqb (length triangles) 0 h) (or_right (not (eqb (length triangles % 3) 0)) true refl)
-
-pub length_many : (triangles : List ℕ) → length triangles % 3 ≡ 0 → (length triangles ≡ 0 → ⊥) → bad_length triangles ≡ ltb most_flat_triangles (triangles_in triangles)
-unfolding bad_length
-length_many triangles h l = rw (eq-eqb (length triangles % 3) 0 h, ne_eqb (length triangles) 0 l)
-
 -- row 3
-module _ (triangles : List ℕ) (f : ℕ) where
-  pub triangle_drops : (i : ℕ) → i < 2 → node triangles f (i + 1) ≤ node triangles f i → bad_triangle triangles f ≡ true
-  unfolding bad_triangle
-  triangle_drops i l h =
-      or_right (some (λ i. ltb highest_node (node triangles f i)) 3) (some (λ i. leb (node triangles f (i + 1)) (node triangles f i)) 2)
-      (some_found (λ i. leb (node triangles f (i + 1)) (node triangles f i)) 2 i l (le-leb (node triangles f (i + 1)) (node triangles f i) h))
-
-  pub triangle_rises : node triangles f 0 < node triangles f 1 → node triangles f 1 < node triangles f 2 → bad_triangle triangles f ≡ ltb highest_node (node triangles f 2)
-  unfolding bad_triangle some
-  triangle_rises h k =
-      rw (lt-leb (node triangles f 1) (node triangles f 0) h, lt-leb (node triangles f 2) (node triangles f 1) k) (go (ltb highest_node (node triangles f 2)) refl)
-    where
-      go : (b : Bool) → ltb highest_node (node triangles f 2) ≡ b
-          → (pick b true (pick (ltb highest_node (node triangles f 1)) true (pick (ltb highest_node (node triangles f 0)) true false)) || false) ≡ b
-      go true e = refl
-      go false e =
-          let l = ltb-false highest_node (node triangles f 2) e in
-          rw (le-ltb highest_node (node triangles f 1) (omega arith), le-ltb highest_node (node triangles f 0) (omega arith))
-
 pub rising_triangles : (triangles : List ℕ) → ((i : ℕ) → get_or triangles i 0 < 65536) → triangles_in triangles ≤ most_flat_triangles
     → triangles_in triangles ≤ first (bad_triangle triangles) (triangles_in triangles) → RisingTriangles triangles
 rising_triangles triangles small few none = record { small = small; few = few; nodes = λ f i h l. (fine f h).0 i l; rising = λ f i h l. (fine f h).1 i l }

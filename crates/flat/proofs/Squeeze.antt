@@ -11,17 +11,12 @@ use mathlib.Core.List.{List}
 use borrow.Author.Tests.{eq-eqb, ne_eqb, lt-ltb, le-ltb, le-leb, lt-leb}
 use Rattle.counting.specs.Pick.{pick}
 use Rattle.counting.specs.Lists.{one}
-use Rattle.face.specs.declared.How.{How}
-use Rattle.face.specs.declared.Why.{Why}
-use Rattle.face.specs.declared.Join.{Join}
-use Rattle.face.specs.declared.Join.TheVariants.{Joined, Unjoined, NoCrossing}
-use Rattle.face.specs.Join.{how_numbers, why_number, join_numbers}
-use Rattle.face.specs.Face.{round, left, joined_by, unjoined_by, no_crossing, other, count_on, kth, corner_count_at, partner, face_answer}
+use Rattle.face.specs.Face.{round, left, joined_by, unjoined_by, other, count_on, kth, corner_count_at, partner, face_answer}
 use Rattle.slots.specs.Slots.{lower}
 use Rattle.face.specs.work.Corners.{corners}
 use Rattle.face.specs.claims.Ends.{Edge, on_ab, on_ac, on_bc, End, low, high}
 use Rattle.face.proofs.Ends.{edge_lt, edge-of, end_other, no_edge}
-use Rattle.face.proofs.Gaps.{kth_lower, kth_upper, corner_node, corner_other}
+use Rattle.face.proofs.Gaps.{kth_lower, kth_upper, corner_other}
 use Rattle.face.proofs.Branches.{answer_off}
 use Rattle.face.proofs.Laws.{joined_or, partner_there}
 use Rattle.face.proofs.Reasons.{corner_answer, reason_laws}
@@ -253,41 +248,6 @@ index_low x y z e t a b c =
       | yes h ↦ low_edge x y z a b c (edge-of e h)
       | no h ↦ omega (arith, no_edge x y z e (omega arith))
     ]
-
--- an answer by its case
-pub stretch_low : {j : Join} {e u : ℕ} {how : How} → j ≡ Joined e u how → get_or (join_numbers j) 2 0 < 65536 → u < 65536
-stretch_low q h = rw q at h
-
-module _ (m g : ℕ) {j : Join} where
-  pub stretch_joined : {e u : ℕ} {how : How} {l : List ℕ} → j ≡ Joined e u how → l ≡ joined_by e (stretched_to m g e u) (how_numbers how) → l ≡ stretched m g (join_numbers j)
-  unfolding stretched
-  stretch_joined q r = rw q r
-
-  pub stretch_unjoined : {why : Why} → j ≡ Unjoined why → unjoined_by (why_number why) ≡ stretched m g (join_numbers j)
-  unfolding stretched
-  stretch_unjoined q = rw q
-
-  pub stretch_none : j ≡ NoCrossing → no_crossing ≡ stretched m g (join_numbers j)
-  unfolding stretched
-  stretch_none q = rw q
-
--- the corner count at the lower end of an edge
-pub lower_bc : (x y z : ℕ) {m : ℕ} {l : List ℕ} → l ≡ corners x y z → m ≡ 2 → get_or l 1 0 ≡ corner_count_at x y z (lower m) m
-unfolding lower
-lower_bc x y z q r = rw (q, r) (sym (corner_node x y z (low on_bc)))
-
-pub lower_a : (x y z : ℕ) {m : ℕ} {l : List ℕ} → l ≡ corners x y z → m < 3 → m ≢ 2 → get_or l 0 0 ≡ corner_count_at x y z (lower m) m
-unfolding lower
-lower_a x y z {m} q h r = rw q (go (edge-of m h) r)
-  where
-    go : {m : ℕ} → Edge m → m ≢ 2 → get_or (corners x y z) 0 0 ≡ corner_count_at x y z (lower m) m
-    go on_ab r = sym (corner_node x y z (low on_ab))
-    go on_ac r = sym (corner_node x y z (low on_ac))
-    go on_bc r = absurd (r refl)
-
--- a count less by 1 at its edge
-pub less_here : (x : ℕ) {e m : ℕ} → e ≡ m → x - 1 ≡ x - one (eqb e m)
-less_here x {e} {m} q = rw (eq-eqb e m q)
 
 pub less_else : (x : ℕ) {e m : ℕ} → e ≢ m → x ≡ x - one (eqb e m)
 less_else x {e} {m} q = rw (ne_eqb e m q) (omega arith)

@@ -481,23 +481,6 @@ module _ {N : ℕ} {next : List ℕ} (L : StepTable N next) where
         let z : step_in N next e ≡ f = along_at N next e (listing_lt N (step_in N next) M R l) ∙ sym q in
         rw z at (listing_more N (step_in N next) M l)
 
--- THE PARTS BY CASES
-pub size_none : (k l : ℕ) → k + l ≡ 0 → 0 ≡ size_by k l
-unfolding size_by
-size_none k l h = rw (eq-eqb (k + l) 0 h)
-
-pub size_some : (k l : ℕ) → k + l ≢ 0 → k + l + 1 ≡ size_by k l
-unfolding size_by
-size_some k l h = rw (ne_eqb (k + l) 0 h)
-
-pub start_first : (a b : ℕ) → a / 2 < b / 2 → rev a ≡ start_by a b
-unfolding start_by
-start_first a b h = rw (lt-ltb (half a) (half b) h)
-
-pub start_second : (a b : ℕ) → b / 2 ≤ a / 2 → rev b ≡ start_by a b
-unfolding start_by
-start_second a b h = rw (le-ltb (half a) (half b) h)
-
 pub words_some : (m : ℕ) → m ≢ 0 → m + 2 ≡ words_of m
 unfolding words_of
 words_some m h = rw (ne_eqb m 0 h)

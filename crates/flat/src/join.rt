@@ -1,5 +1,5 @@
 // The segments of a triangle: what a crossing is joined to and how, or why it is not, from the counts of the triangle's edges.
-ghost use Rattle.std.specs.Prelude.{◌≡◌, ◌-◌, ◌<◌, eqb, get_or};
+ghost use Rattle.std.specs.Prelude.{◌≡◌, ◌-◌, ◌<◌, eqb, get_or, unwrap_or, IfSome};
 ghost use Rattle.counting.specs.Lists.{one};
 ghost use Rattle.face.specs.work.Corners.{corner_list, corners};
 ghost use Rattle.face.specs.Face.{joined_by, corner_count_at};
@@ -9,37 +9,34 @@ ghost use Rattle.flat.specs.Join.{largest_edge, lessened, triangle_answer};
 ghost use Rattle.flat.specs.work.Work.{lessened_edge, squeezed, stretched_to, stretched, LessenedAt};
 
 use face::{CornerCounts, How, Join, Why};
+use slots::lower_end;
 
 // The edge with the largest of these counts, the first on a tie.
 fn largest_of(x: u32, y: u32, z: u32) -> u32
-    ensures { result ≡ largest_edge x y z }
+    ensures { (result ≡ largest_edge x y z) × (result < 3) }
 {
     if x < y {
-        return if y < z { 2 } else { 1 };
+        if y < z { 2 } else { 1 }
+    } else if x < z {
+        2
+    } else {
+        0
     }
-    if x < z { 2 } else { 0 }
 }
 
-// The edge whose count rule 2 lessens; 3 in the other rules.
-fn lessened_edge(ab: u16, ac: u16, bc: u16) -> u32
-    ensures { result ≡ lessened_edge ab ac bc }
+// The edge whose count rule 2 lessens; none in the other rules.
+fn lessened_edge(ab: u16, ac: u16, bc: u16) -> Option<u32>
+    ensures value { unwrap_or result 3 ≡ lessened_edge ab ac bc }
+    ensures edge { IfSome result (λ m. m < 3) }
 {
     let x = ab as u32;
     let y = ac as u32;
     let z = bc as u32;
-    if (x + y + z) % 2 == 0 {
-        return 3;
+    if (x + y + z) % 2 == 0 || y + z < x || x + z < y || x + y < z {
+        None
+    } else {
+        Some(largest_of(x, y, z))
     }
-    if y + z < x {
-        return 3;
-    }
-    if x + z < y {
-        return 3;
-    }
-    if x + y < z {
-        return 3;
-    }
-    largest_of(x, y, z)
 }
 
 // The count x of edge e, less by 1 if that is edge m.
@@ -47,21 +44,22 @@ fn less_at(x: u16, e: u32, m: u32) -> u16
     requires { e ≡ m → 0 < x }
     ensures { result ≡ x - one (eqb e m) }
 {
-    if e == m {
-        return x - 1;
-    }
-    x
+    if e == m { x - 1 } else { x }
 }
 
 // The corner counts of a triangle, at its nodes a, b, c.
 pub(crate) fn flat_corners(ab: u16, ac: u16, bc: u16) -> CornerCounts
     ensures { corner_list result ≡ corners (lessened ab ac bc 0) (lessened ab ac bc 1) (lessened ab ac bc 2) }
 {
-    let m = lessened_edge(ab, ac, bc);
-    let x = less_at(ab, 0, m);
-    let y = less_at(ac, 1, m);
-    let z = less_at(bc, 2, m);
-    face::corners_of(x, y, z)
+    match lessened_edge(ab, ac, bc) {
+        None => face::corners_of(ab, ac, bc),
+        Some(m) => {
+            let x = less_at(ab, 0, m);
+            let y = less_at(ac, 1, m);
+            let z = less_at(bc, 2, m);
+            face::corners_of(x, y, z)
+        }
+    }
 }
 
 // The corner count at the lower end of edge m.
@@ -69,35 +67,29 @@ fn lower_corner(x: u16, y: u16, z: u16, m: u32) -> u32
     requires { m < 3 }
     ensures { result ≡ corner_count_at x y z (lower m) m }
 {
-    let c = face::corners_of(x, y, z);
-    if m == 2 {
-        return c.b as u32;
-    }
-    c.a as u32
+    face::corners_of(x, y, z).at(lower_end(m)) as u32
 }
 
+#[tactic(auto, unfolding(crate::specs::work::Work::squeezed))]
 fn squeeze(g: u32, t: u32) -> u32
     ensures { result ≡ squeezed g t }
 {
-    if g < t {
-        return t - 1;
-    }
-    t
+    if g < t { t - 1 } else { t }
 }
 
+#[tactic(auto, unfolding(crate::specs::work::Work::stretched_to))]
 fn stretch_to(m: u32, g: u32, e: u32, u: u32, how: How) -> Join
     requires { u < 65536 }
     ensures { join_numbers result ≡ joined_by e (stretched_to m g e u) (how_numbers how) }
 {
-    if e != m {
-        return Join::Joined(e, u, how);
+    if e == m && g <= u {
+        Join::Joined(e, u + 1, how)
+    } else {
+        Join::Joined(e, u, how)
     }
-    if u < g {
-        return Join::Joined(e, u, how);
-    }
-    Join::Joined(e, u + 1, how)
 }
 
+#[tactic(auto, unfolding(crate::specs::work::Work::stretched))]
 fn stretch(m: u32, g: u32, j: Join) -> Join
     requires { get_or (join_numbers j) 2 0 < 65536 }
     ensures { join_numbers result ≡ stretched m g (join_numbers j) }
@@ -131,9 +123,8 @@ fn join_left(ab: u16, ac: u16, bc: u16, m: u32, edge: u32, index: u32) -> Join
 pub fn flat_join(ab: u16, ac: u16, bc: u16, edge: u32, index: u32) -> Join
     ensures { join_numbers result ≡ triangle_answer ab ac bc edge index }
 {
-    let m = lessened_edge(ab, ac, bc);
-    if m == 3 {
-        return face::face_join(ab, ac, bc, edge, index);
+    match lessened_edge(ab, ac, bc) {
+        None => face::face_join(ab, ac, bc, edge, index),
+        Some(m) => join_left(ab, ac, bc, m, edge, index),
     }
-    join_left(ab, ac, bc, m, edge, index)
 }
