@@ -43,7 +43,7 @@ pub(crate) fn word_at(bytes: &[u8], at: usize) -> u16
     requires { at + 1 < length bytes.now }
     ensures { result ≡ word bytes.now at }
 {
-    (bytes[at] as u16) + BYTE_VALUES * (bytes[at + 1] as u16)
+    u16::from_le_bytes([bytes[at], bytes[at + 1]])
 }
 
 // Whether the record of a kind at a start has a count that the kind may have.

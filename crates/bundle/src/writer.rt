@@ -1,10 +1,10 @@
 // The bundle writer. What is put stands in the area from a place on, and the place after it is answered.
-ghost use Rattle.std.specs.Prelude.{◌≡◌, ◌+◌, ◌*◌, ◌/◌, ◌%◌, ◌≤◌, min, leb, length};
-ghost use Rattle.counting.specs.Lists.{one, over};
+ghost use Rattle.std.specs.Prelude.{◌≡◌, ◌+◌, ◌*◌, ◌/◌, ◌%◌, ◌≤◌, length};
+ghost use Rattle.counting.specs.Lists.{over};
 ghost use Rattle.counting.specs.work.Stored.{Stored};
-ghost use Rattle.bundle.specs.Record.{byte_values, word_size, head_bytes, kind_number};
+ghost use Rattle.bundle.specs.Record.{word_size, head_bytes, kind_number};
 ghost use Rattle.bundle.specs.Bundle.{cell_nodes};
-ghost use Rattle.bundle.specs.Written.{most_named, word_bytes, head_of, list_bytes, kind_for, count_bytes, cell_bytes, edge_bytes, write_answer, area_left, written_numbers};
+ghost use Rattle.bundle.specs.Written.{word_bytes, head_of, list_bytes, kind_for, count_bytes, cell_bytes, edge_bytes, write_answer, area_left, written_numbers};
 ghost use Rattle.bundle.specs.work.Needed.{wides, bundle_size, ListFits, CellFits, EdgeFits, CellsFit, EdgesFit};
 
 use crate::kinds::Kind;
@@ -14,26 +14,16 @@ use crate::records::{
 use answer::{Refusal, Row};
 
 // The greatest number of bytes that a refusal names.
-const MOST: usize = 4294967295;
+const MOST: u128 = 4294967295;
 
-fn low(x: u16) -> u8
-    ensures { result ≡ x % byte_values }
-{
-    (x % BYTE_VALUES) as u8
-}
-
-fn high(x: u16) -> u8
-    ensures { result ≡ x / byte_values }
-{
-    (x / BYTE_VALUES) as u8
-}
-
+// A number of 16 bits, low byte first.
 fn put_word(area: &mut [u8], at: usize, x: u16) -> usize
     requires { at + word_size ≤ length area.old }
     ensures { Stored area.old at (word_bytes x) area.new result }
 {
-    area[at] = low(x);
-    area[at + 1] = high(x);
+    let [low, high] = x.to_le_bytes();
+    area[at] = low;
+    area[at + 1] = high;
     at + WORD_BYTES
 }
 
@@ -139,41 +129,14 @@ fn wides_in(counts: &[u16]) -> usize
     n
 }
 
-// Whether a bundle of so many cells and edges, of which so many are of kind 4, fits a number of bytes.
-fn fits(cells: usize, edges: usize, wide: usize, room: usize) -> bool
-    ensures { result ≡ leb (bundle_size cells edges wide) room }
+// The bytes of a bundle of so many cells and edges, of which so many are of kind 4.
+fn bundle_size(cells: usize, edges: usize, wide: usize) -> u128
+    ensures { result ≡ bundle_size cells edges wide }
 {
-    if room < END_BYTES {
-        return false;
-    }
-    if (room - END_BYTES) / CELL_BYTES < cells {
-        return false;
-    }
-    let left = room - END_BYTES - CELL_BYTES * cells;
-    if left / EDGE_BYTES < edges {
-        return false;
-    }
-    wide <= left - EDGE_BYTES * edges
-}
-
-// The bytes of such a bundle, as a refusal names them.
-fn needed(cells: usize, edges: usize, wide: usize) -> usize
-    ensures { result ≡ min (bundle_size cells edges wide) most_named }
-{
-    if MOST / CELL_BYTES < cells {
-        return MOST;
-    }
-    if MOST / EDGE_BYTES < edges {
-        return MOST;
-    }
-    if MOST < wide {
-        return MOST;
-    }
-    let n = CELL_BYTES * cells + EDGE_BYTES * edges + wide + END_BYTES;
-    if MOST < n {
-        return MOST;
-    }
-    n
+    CELL_BYTES as u128 * cells as u128
+        + EDGE_BYTES as u128 * edges as u128
+        + wide as u128
+        + END_BYTES as u128
 }
 
 // Writes the bundle of the lists and answers its number of bytes; a refusal leaves the area as it is.
@@ -189,9 +152,9 @@ pub fn write(nodes: &[u16], ends: &[u16], counts: &[u16], area: &mut [u8]) -> Re
     {
         return Err(Row::Records.at(0));
     }
-    let wide = wides_in(counts);
-    if !fits(cells, edges, wide, area.len()) {
-        return Err(Row::BundleArea.at(needed(cells, edges, wide)));
+    let size = bundle_size(cells, edges, wides_in(counts));
+    if (area.len() as u128) < size {
+        return Err(Row::BundleArea.at(size.min(MOST) as usize));
     }
     let from = put_cells(nodes, area);
     let stop = put_edges(ends, counts, from, area);
