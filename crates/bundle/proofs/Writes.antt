@@ -1,19 +1,20 @@
 -- The writer: the length of what it writes, and the cases of its answer. Assumes nothing.
-use Prim.Native.Nat.{ℕ, ◌+◌, ◌*◌, ◌/◌, ◌%◌, ◌≤◌, ◌<◌, min}
+use Prim.Native.Nat.{ℕ, ◌+◌, ◌-◌, ◌*◌, ◌/◌, ◌%◌, ◌≤◌, ◌<◌, min}
 use mathlib.Core.Path.{◌≡◌, refl, ap, ◌∙◌, sym}
 use mathlib.Core.Bool.{Bool, true, false}
 use mathlib.Core.List.{List, [], ◌∷◌, ◌++◌}
 use native.Mathlib.Nat.{zero-add}
 use native.Mathlib.Omega.{arith}
 use lib.Dec.{eqb}
-use lib.ListN.{length, get_or, replicate, length-append}
+use lib.Seq.{get_or-take, get_or-drop}
+use lib.ListN.{length, get_or, replicate, length-append, take, drop, length-take, length-drop}
 use borrow.Author.Tests.{eq-eqb, ne_eqb, le-leb, lt-leb}
 use Rattle.answer.specs.Answer.{result_of, refusal}
 use Rattle.counting.specs.Pick.{pick}
 use Rattle.counting.specs.Lists.{one, total, over}
 use Rattle.counting.specs.work.Stored.{Stored}
 use Rattle.counting.proofs.Bools.{and_false_left, and_false_right}
-use Rattle.counting.proofs.Range.{total_ext, total_add, length_over}
+use Rattle.counting.proofs.Range.{total_ext, total_add, length_over, over_ext}
 use Rattle.counting.proofs.Search.{count_total}
 use Rattle.counting.proofs.Fronts.{length_blocks}
 use Rattle.counting.proofs.Stored.{stored_then, stored_front}
@@ -25,6 +26,14 @@ use Rattle.bundle.specs.work.Needed.{wides, bundle_size}
 
 pub length_list : (l : List ℕ) (from n : ℕ) → length (list_bytes l from n) ≡ word_size * n
 length_list l from n = length_blocks (λ i. word_bytes (get_or l (from + i) 0)) word_size n (λ _ _. refl)
+
+-- the bytes of a part of a list
+pub part_bytes : (l : List ℕ) (from n : ℕ) → from + n ≤ length l
+    → list_bytes (take (from + n - from) (drop from l)) 0 (length (take (from + n - from) (drop from l))) ≡ list_bytes l from n
+part_bytes l from n h =
+    let q : from + n - from ≡ n = omega arith in
+    let e : length (take n (drop from l)) ≡ n = omega (arith, length-take n (drop from l), length-drop from l) in
+    rw (q, e) (over_ext _ _ n 0 (λ i a b. ap word_bytes (ap (λ k. get_or (take n (drop from l)) k 0) (zero-add i) ∙ get_or-take n (drop from l) i 0 (omega arith) ∙ get_or-drop from l i 0)))
 
 pub length_cell : (nodes : List ℕ) (k : ℕ) → length (cell_bytes nodes k) ≡ cell_size
 unfolding cell_bytes over

@@ -5,7 +5,7 @@ ghost use Rattle.counting.specs.work.Stored.{Stored};
 ghost use Rattle.bundle.specs.Record.{word_size, head_bytes, kind_number};
 ghost use Rattle.bundle.specs.Bundle.{cell_nodes};
 ghost use Rattle.bundle.specs.Written.{word_bytes, head_of, list_bytes, kind_for, count_bytes, cell_bytes, edge_bytes, write_answer, area_left, written_numbers};
-ghost use Rattle.bundle.specs.work.Needed.{wides, bundle_size, ListFits, CellFits, EdgeFits, CellsFit, EdgesFit};
+ghost use Rattle.bundle.specs.work.Needed.{wides, bundle_size, CellFits, EdgeFits, CellsFit, EdgesFit};
 
 use crate::kinds::Kind;
 use crate::records::{
@@ -36,14 +36,14 @@ fn put_head(area: &mut [u8], at: usize, kind: Kind) -> usize
     put_word(area, next, kind.number())
 }
 
-// The n numbers of a list from a place on.
-fn put_words(area: &mut [u8], at: usize, list: &[u16], from: usize, n: usize) -> usize
-    requires { ListFits area.old at list.now from n }
-    ensures { Stored area.old at (list_bytes list.now from n) area.new result }
+// The numbers of a list.
+fn put_words(area: &mut [u8], at: usize, words: &[u16]) -> usize
+    requires { at + word_size * length words.now ≤ length area.old }
+    ensures { Stored area.old at (list_bytes words.now 0 (length words.now)) area.new result }
 {
     let mut next = at;
-    for i in 0..n {
-        next = put_word(area, next, list[from + i]);
+    for word in words {
+        next = put_word(area, next, *word);
     }
     next
 }
@@ -54,7 +54,8 @@ fn put_cell(area: &mut [u8], at: usize, nodes: &[u16], k: usize) -> usize
     ensures { Stored area.old at (cell_bytes nodes.now k) area.new result }
 {
     let body = put_head(area, at, Kind::Cell);
-    put_words(area, body, nodes, CELL_NODES * k, CELL_NODES)
+    let from = CELL_NODES * k;
+    put_words(area, body, &nodes[from..from + CELL_NODES])
 }
 
 // The kind of an edge with a count.
@@ -87,7 +88,8 @@ fn put_edge(area: &mut [u8], at: usize, ends: &[u16], counts: &[u16], k: usize) 
 {
     let count = counts[k];
     let body = put_head(area, at, kind_for(count));
-    let next = put_words(area, body, ends, EDGE_ENDS * k, EDGE_ENDS);
+    let from = EDGE_ENDS * k;
+    let next = put_words(area, body, &ends[from..from + EDGE_ENDS]);
     put_count(area, next, count)
 }
 

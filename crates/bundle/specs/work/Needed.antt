@@ -50,11 +50,6 @@ pub record EdgesLent (s : List ℕ) (from count : ℕ) (ends counts : List ℕ) 
   pub ends_room : edge_ends * count ≤ length ends
   pub counts_room : count ≤ length counts
 
--- n numbers of a list, and room for their bytes
-pub record ListFits (area : List ℕ) (at : ℕ) (list : List ℕ) (from n : ℕ) : Type 0 where
-  pub all : from + n ≤ length list
-  pub room : at + word_size * n ≤ length area
-
 -- cell k, and room for its record
 pub record CellFits (area : List ℕ) (at : ℕ) (nodes : List ℕ) (k : ℕ) : Type 0 where
   pub all : cell_nodes * k + cell_nodes ≤ length nodes

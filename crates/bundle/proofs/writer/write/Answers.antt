@@ -1,8 +1,7 @@
 use Prim.Native.Nat.{◌*◌, ◌≤◌}
-use mathlib.Core.Path.{◌≡◌, sym, ap, ◌∙◌}
+use mathlib.Core.Path.{◌≡◌, ap, ◌∙◌}
 use native.Mathlib.Omega.{arith}
 use lib.ListN.{length}
-use borrow.Author.Tests.{leb-true, leb-false}
 use Rattle.answer.specs.Answer.{refusal}
 use Rattle.answer.specs.Refusal.{refusal_numbers}
 use Rattle.bundle.specs.Record.{broken_row}
