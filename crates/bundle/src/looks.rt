@@ -99,7 +99,7 @@ fn mark(block: &Block, links: &[u16], met: &mut [bool])
     ensures { KeysMarked block.now.of.bytes.now block.now.first block.now.count met.new }
 {
     let mut at = block.of.from;
-    for k in 0..block.of.edges {
+    for _ in 0..block.of.edges {
         let key = key_at(block.of.bytes, at);
         at = next_at(block.of.bytes, at);
         if let Some(place) = latest::<Block, BRANCHES>(block, links, key) {

@@ -9,20 +9,20 @@ use Rattle.bundle.proofs.Looked.{marking_none, marking_skip, marking_more, edge_
 use Rattle.bundle.proofs.looks.mark.Goals as goal
 use Rattle.bundle.proofs.looks.mark.Goals.{in-Some, in_default}
 
-pub loop-k-init : goal.loop-k-init
-loop-k-init c = (walked _ _ edge_section, marking_none _ _ _ _ c.requires.blank)
+pub loop-init : goal.loop-init
+loop-init c = (walked _ _ edge_section, marking_none _ _ _ _ c.requires.blank)
 
 pub key_at-key-requires : goal.key_at-key-requires
-key_at-key-requires c = edge-ends _ _ _ _ _ c.args.block.now.of.lent.listed c.loop-k.invariant.0 c.loop-k-test.true
+key_at-key-requires c = edge-ends _ _ _ _ _ c.args.block.now.of.lent.listed c.loop.invariant.0 c.loop-test.true
 
 pub next_at-at-requires : goal.next_at-at-requires
-next_at-at-requires c = edge_whole _ _ _ _ _ c.args.block.now.of.lent.listed c.loop-k.invariant.0 c.loop-k-test.true
+next_at-at-requires c = edge_whole _ _ _ _ _ c.args.block.now.of.lent.listed c.loop.invariant.0 c.loop-test.true
 
-pub loop-k-preserved : goal.loop-k-preserved
-loop-k-preserved c =
+pub loop-preserved : goal.loop-preserved
+loop-preserved c =
     let b = c.args.block.now in
-    let l = c.loop-k in
-    let h = c.loop-k-test.true in
+    let l = c.loop in
+    let h = c.loop-test.true in
     let key = c.key_at-key.ensures ∙ edge-key _ _ _ _ _ b.of.lent.listed l.invariant.0 h in
     let top = c.latest.ensures ∙ ap (top_for (block_key b.of.bytes.now b.first) b.count) key in (
       edge_next _ _ _ _ _ b.of.lent.listed l.invariant.0 h _ c.next_at-at.ensures,
@@ -35,10 +35,10 @@ loop-k-preserved c =
 pub bounds-met-place : goal.bounds-met-place
 bounds-met-place c =
     let b = c.args.block.now in
-    omega (arith, c.requires.room, c.loop-k.invariant.1.long, c.in-Some.ensures, top_le (block_key b.of.bytes.now b.first) b.count c.key_at-key.result)
+    omega (arith, c.requires.room, c.loop.invariant.1.long, c.in-Some.ensures, top_le (block_key b.of.bytes.now b.first) b.count c.key_at-key.result)
 
 pub returns : goal.returns
 returns c = let p = c.requires in
-    let w = c.loop-k.invariant in
+    let w = c.loop.invariant in
     let e = edge_all _ _ _ _ _ c.args.block.now.of.lent.listed w.0 (omega arith) in
     record { room = omega (arith, p.room, w.1.long); at = rw e at w.1.marks }
