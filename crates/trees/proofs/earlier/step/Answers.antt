@@ -7,29 +7,14 @@ use Rattle.trees.proofs.earlier.step.Goals as goal
 pub loop-j-init : goal.loop-j-init
 loop-j-init c = (refl, stepped_none _ _ _ _ c.requires)
 
-pub bounds-prev-j : goal.bounds-prev-j
-bounds-prev-j c = omega (arith, c.requires.tops_are.room, c.loop-j.invariant.1.same)
-
 pub bounds-seen-t : goal.bounds-seen-t
 bounds-seen-t c = omega (arith, c.loop-j.invariant.1.room, step_top _ _ _ _ _ _ (omega arith) c.loop-j.invariant.1 c.requires.tops_are.room _ refl)
-
-pub bounds-prev-j-in-loop-j : goal.bounds-prev-j-in-loop-j
-bounds-prev-j-in-loop-j c = omega (arith, c.requires.tops_are.room, c.loop-j.invariant.1.same)
-
-pub overflow_cast-seen : goal.overflow_cast-seen
-overflow_cast-seen c = omega (arith, c.requires.few)
 
 pub bounds-seen-t-in-loop-j : goal.bounds-seen-t-in-loop-j
 bounds-seen-t-in-loop-j c = omega (arith, c.loop-j.invariant.1.room, step_top _ _ _ _ _ _ (omega arith) c.loop-j.invariant.1 c.requires.tops_are.room _ refl)
 
 pub loop-j-preserved : goal.loop-j-preserved
 loop-j-preserved c = (simp length-set c.loop-j.invariant.0, stepped_more _ _ _ _ _ _ (omega arith) c.loop-j.invariant.1 c.requires.tops_are.room _ refl)
-
-pub shape_of-prev : goal.shape_of-prev
-shape_of-prev c = c.loop-j.invariant.1.same
-
-pub shape_of-seen : goal.shape_of-seen
-shape_of-seen c = c.loop-j.invariant.0
 
 pub returns : goal.returns
 returns c = let e : c.loop-j.j ≡ length c.args.keys.now = omega arith in

@@ -3,11 +3,6 @@ use native.Mathlib.Omega.{arith}
 use Rattle.trees.proofs.Planted.{topped, spread_all}
 use Rattle.trees.proofs.pairs.put_pairs.Goals as goal
 
-pub mark-lowest-requires : goal.mark-lowest-requires
-mark-lowest-requires c = let p = c.requires in
-    let g = c.grow.ensures in
-    record { tree = g.tree; few = p.growing.few; tops_are = g.key_tops.tops_are; room = p.n_in_bounds }
-
 pub spread-requires : goal.spread-requires
 spread-requires c = let p = c.requires in
     let m = c.mark-lowest.ensures.pairs_marked in

@@ -11,17 +11,11 @@ use Rattle.trees.proofs.pairs.spread.Goals as goal
 pub loop-j-init : goal.loop-j-init
 loop-j-init c = (omega arith, filled_none _ _)
 
-pub source-requires : goal.source-requires
-source-requires c = record { topped = c.requires.topped; j_lt_n = omega arith }
-
 pub offset_bounds-places-source : goal.offset_bounds-places-source
 offset_bounds-places-source c = omega (arith, c.source.ensures, source_in _ _ c.requires.topped c.loop-j.j (omega arith), c.requires.n_in_bounds)
 
 pub bounds-places-source : goal.bounds-places-source
 bounds-places-source c = omega (arith, c.source.ensures, source_in _ _ c.requires.topped c.loop-j.j (omega arith), c.requires.n_in_bounds, simp length_filled at (ap length c.loop-j.invariant.1))
-
-pub bounds-places-j : goal.bounds-places-j
-bounds-places-j c = omega (arith, c.requires.n_in_bounds, simp length_filled at (ap length c.loop-j.invariant.1))
 
 pub loop-j-preserved : goal.loop-j-preserved
 unfolding spread_at
@@ -33,10 +27,3 @@ loop-j-preserved c = let a = c.args in
     ∙ ap (λ (x : List ℕ). get_or x s 0) l.invariant.1
     ∙ filled_beyond (spread_at a.tops.now a.places.now) l.j a.places.now 0 s (source_up _ _ c.requires.topped l.j (omega arith)) in
     (omega arith, filled_more (spread_at a.tops.now a.places.now) _ _ _ _ l.invariant.1 e)
-
-pub shape_of-places : goal.shape_of-places
-shape_of-places c = simp length_filled at (ap length c.loop-j.invariant.1)
-
-pub returns : goal.returns
-returns c = let e : c.loop-j.j ≡ c.args.n = omega arith in
-    rw e at c.loop-j.invariant.1

@@ -1,19 +1,15 @@
 use Prim.Native.Nat.{◌+◌, ◌-◌, ◌*◌, ◌%◌, ◌<◌}
 use mathlib.Core.Path.{refl, sym, ◌∙◌}
-use native.Mathlib.Nat.{mod-lt}
 use native.Mathlib.Omega.{arith}
 use lib.ListN.{length}
 use Rattle.trees.specs.work.Trees.{trees}
-use Rattle.trees.proofs.Trees.{descending_start, descending_end, descending_le, descending_hit, descending_less, descending_room, descending_more}
+use Rattle.trees.proofs.Trees.{descending_start, descending_end, descending_le, descending_hit, descending_room, descending_more}
 use Rattle.trees.proofs.planting.seek.Goals as goal
 use Rattle.trees.proofs.planting.seek.Goals.{Else-key}
 
 -- the branch is within the links
 room : (g : _) (c : Else-key g) → trees + g.row.B * (c.loop-j.j - 1) + c.loop-j.rest % g.row.B < length c.args.links.now
 room g c = descending_room _ c.requires.some _ _ _ _ c.requires.tree _ _ _ _ c.loop-j.invariant c.loop-j-test.true
-
-pub bounds-links-at : goal.bounds-links-at
-bounds-links-at g c = omega (arith, c.requires.tree.room, mod-lt c.args.key {m = trees} (omega arith))
 
 pub loop-j-init : goal.loop-j-init
 loop-j-init g c = descending_start _ c.requires.some _ _ _ _ c.requires.tree _ _ refl
@@ -38,9 +34,6 @@ offset_bounds-links-at-in-loop-j g c = omega (arith, room g (goal.at.offset_boun
 
 pub bounds-links-at-in-loop-j : goal.bounds-links-at-in-loop-j
 bounds-links-at-in-loop-j g c = room g (goal.at.bounds-links-at-in-loop-j g c).Else-key
-
-pub loop-j-smaller : goal.loop-j-smaller
-loop-j-smaller g c = omega (arith, descending_less _ c.requires.some _ _ _ _ c.requires.tree _ _ _ _ c.loop-j.invariant c.loop-j-test.true)
 
 pub loop-j-preserved : goal.loop-j-preserved
 loop-j-preserved g c = descending_more _ c.requires.some _ _ _ _ c.requires.tree _ _ _ _ c.loop-j.invariant c.loop-j-test.true (λ q. c.if-key.false (c.key.ensures ∙ q)) _ refl
