@@ -1,8 +1,9 @@
 -- The walks from all crossings of a cell in turn: those from crossings below p are done.
-use Prim.Native.Nat.{ℕ, ◌+◌, ◌≤◌, ◌<◌}
+use Prim.Native.Nat.{ℕ, ◌+◌, ◌-◌, ◌≤◌, ◌<◌}
 use mathlib.Core.Path.{◌≡◌, sym, ap, ◌∙◌}
 use mathlib.Core.Bool.{Bool}
 use mathlib.Core.List.{List}
+use native.Mathlib.Nat.{sub-zero}
 use native.Mathlib.Omega.{arith}
 use lib.ListN.{length, take}
 use Rattle.counting.specs.Stored.{filled}
@@ -100,15 +101,15 @@ module _ {c : Cell} {n : ℕ} {routes ms₀ hs₀ ps₀ ms hs ps : List ℕ} {p 
         used = used_then G.used (record { marks_kept = W.marks_kept; halves_kept = W.halves_kept; points_kept = W.points_kept });
       }
 
-      -- in the slices up to m
-      pub going_looped : Looped c p m b (take m hs') (take m ps')
+      -- in the slices from 0 to m
+      pub going_looped : Looped c p m b (take (m - 0) hs') (take (m - 0) ps')
       going_looped = record {
         inside = going_in;
         size = W.size;
         told = W.told;
         few = omega (arith, W.size, size_le (edges_of c) p going_in, G.all, G.few);
-        halves_are = W.halves_are;
-        points_are = W.points_are;
+        halves_are = rw (sub-zero m) W.halves_are;
+        points_are = rw (sub-zero m) W.points_are;
       }
 
       -- they are parts of the arrays

@@ -1,6 +1,6 @@
 -- What is kept of the arrays that the walks use.
 use Prim.Native.Nat.{ℕ, zero, suc, ◌-◌, ◌%◌, ◌≤◌, ◌<◌, min}
-use mathlib.Core.Path.{◌≡◌, refl, sym, ap, subst, ◌∙◌}
+use mathlib.Core.Path.{◌≡◌, refl, sym, ap, ◌∙◌}
 use mathlib.Core.List.{List, [], ◌∷◌, ◌++◌}
 use native.Mathlib.Decide.{dec_lt}
 use native.Mathlib.Omega.{arith}
@@ -123,14 +123,6 @@ module _ (counts sides : List ℕ) (c : ℕ) where
         | yes l ↦ rw (values_at (λ k. get_or counts (side sides (c % most_cells) k) 0) 6 k 0 l) (h (side sides (c % most_cells) k))
         | no n ↦ omega (arith, past_end (table_counts counts sides (c % most_cells)) k (omega (arith, length_singles (λ k. get_or counts (side sides (c % most_cells) k) 0) 6 0)))
       ]
-
--- arrays with m places have n
-pub long_enough : {n m : ℕ} {ms hs ps : List ℕ} → Long m ms hs ps → n ≤ m → Long n ms hs ps
-long_enough L h = record { marks_long = omega (arith, L.marks_long); halves_long = omega (arith, L.halves_long); points_long = omega (arith, L.points_long) }
-
--- so they have room for a cell that is taken with its starts within the limit
-pub limited_room : (c : Cell) {v : Cell} {n m : ℕ} {ms hs ps : List ℕ} → v ≡ limited c → (n ≡ crossings (edges_of v)) × (n ≤ most_in_cell) → Long m ms hs ps → n ≤ m → Room v n ms hs ps
-limited_room c e w L h = record { near = subst Near (sym e) (limited_near c); all = w.0; few = w.1; long = long_enough L h }
 
 -- a list whose first n places are filled
 same_values : (v n k : ℕ) → over (λ i. v ∷ []) n k ≡ replicate n v

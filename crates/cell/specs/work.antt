@@ -7,7 +7,6 @@ pub mod Table
 pub mod Tables
 pub mod Scratch
 pub mod Walked
-pub mod Trail
 pub mod Round
 pub mod Traced
 pub mod Nth

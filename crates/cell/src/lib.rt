@@ -6,7 +6,7 @@ ghost use Rattle.cell.specs.Of.{edges_of};
 ghost use Rattle.cell.specs.work.Route.{limited};
 ghost use Rattle.cell.specs.Loop.{loop_answer};
 ghost use Rattle.cell.specs.Answer.{loop_numbers};
-ghost use Rattle.cell.specs.work.Trail.{HasPlaces, HasRoom, UsedBelow};
+ghost use Rattle.cell.specs.work.Walked.{Room, Used};
 
 use slots::{MOST_COUNT, MOST_EDGES, MOST_SLOTS};
 
@@ -148,27 +148,6 @@ struct Nest {
     low: usize,
 }
 
-// What the walks of a cell of at most N crossings write on: the mark of each crossing, and of the loop that is walked, dart by dart, the half-edge by which
-// the dart leaves and its point. Which walk may read what an earlier one left stands at `walk`.
-#[derive(Drop)]
-struct Trail<const N: usize> {
-    marks: [u16; N],
-    halves: [u8; N],
-    points: [u32; N],
-}
-
-impl<const N: usize> Trail<N> {
-    fn new() -> Trail<N>
-        ensures { HasPlaces N result }
-    {
-        Trail {
-            marks: [0; N],
-            halves: [0; N],
-            points: [0; N],
-        }
-    }
-}
-
 // What a walk found: the length of the loop, 0 where there is none, and whether it is normal.
 #[derive(Clone, Copy)]
 struct Trip {
@@ -177,22 +156,29 @@ struct Trip {
 }
 
 // Loop k of the cell, which has n crossings, or none where there are k or fewer. The arrays are the walks'.
-fn loop_in<const N: usize>(c: Cell, n: usize, k: usize, trail: &mut Trail<N>) -> Option<Loop>
-    requires { HasRoom c n trail.old }
+fn loop_in(
+    c: Cell,
+    n: usize,
+    k: usize,
+    marks: &mut [u16],
+    halves: &mut [u8],
+    points: &mut [u32],
+) -> Option<Loop>
+    requires { Room c n marks.old halves.old points.old }
     ensures result_value { loop_numbers result ≡ loop_answer (edges_of c) c.nodes k }
-    ensures used { UsedBelow n trail.old trail.new }
+    ensures used { Used n marks.old halves.old points.old marks.new halves.new points.new }
 {
     let routes = routes::routes_of(c);
-    walks::clear(&mut trail.marks, n);
+    walks::clear(marks, n);
     let mut left = k;
     for p in 0..n {
-        let t = walks::walk(c, &routes, n, p, trail);
+        let t = walks::walk(c, &routes, n, p, marks, halves, points);
         let m = t.length;
         if m == 0 {
             continue;
         }
         if left == 0 {
-            return Some(answers::answer_of(c, &trail.halves[..m], &trail.points[..m], t.normal));
+            return Some(answers::answer_of(c, &halves[0..m], &points[0..m], t.normal));
         }
         left -= 1;
     }
@@ -206,7 +192,13 @@ pub fn loop_at(c: Cell, k: usize) -> Option<Loop>
     let v = routes::within(c);
     let n = crossings_of(v);
     if n <= FEW_IN_CELL {
-        return loop_in(v, n, k, &mut Trail::<FEW_IN_CELL>::new());
+        let mut marks = [0u16; FEW_IN_CELL];
+        let mut halves = [0u8; FEW_IN_CELL];
+        let mut points = [0u32; FEW_IN_CELL];
+        return loop_in(v, n, k, &mut marks, &mut halves, &mut points);
     }
-    loop_in(v, n, k, &mut Trail::<MOST_IN_CELL>::new())
+    let mut marks = [0u16; MOST_IN_CELL];
+    let mut halves = [0u8; MOST_IN_CELL];
+    let mut points = [0u32; MOST_IN_CELL];
+    loop_in(v, n, k, &mut marks, &mut halves, &mut points)
 }

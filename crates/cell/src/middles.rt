@@ -7,14 +7,14 @@ ghost use Rattle.manifold.specs.Shape.{has_middle};
 ghost use Rattle.cell.specs.work.Limits.{most_in_cell};
 ghost use Rattle.cell.specs.Cell.{crossings};
 ghost use Rattle.cell.specs.Of.{edges_of};
-ghost use Rattle.cell.specs.work.Trail.{HasRoom, UsedBelow};
+ghost use Rattle.cell.specs.work.Walked.{Room, Used};
 ghost use Rattle.cell.specs.claims.Middles.{fan_count, cell_middles, numbered_below, is_placeable, points_then, next_point};
 ghost use Rattle.cell.specs.work.Centres.{IsNest, recorded_place, recorded_middle, MiddlesRoom};
 
 use super::nests::{nest_in, nested_middle};
 use super::routes::{end_of, routes_of};
 use super::walks::{clear, walk};
-use super::{Cell, Nest, Trail};
+use super::{Cell, Nest};
 use place::Place;
 
 // 1 where a loop of n, normal or not, is drawn as a fan, else 0.
@@ -70,66 +70,65 @@ fn put_middle(
 }
 
 // How many fans the cell has, which has n crossings.
-fn count<const N: usize>(c: Cell, n: usize, trail: &mut Trail<N>) -> usize
-    requires { HasRoom c n trail.old }
+fn count(c: Cell, n: usize, marks: &mut [u16], halves: &mut [u8], points: &mut [u32]) -> usize
+    requires { Room c n marks.old halves.old points.old }
     ensures value { (result ≡ fan_count c) × (result ≤ most_in_cell) }
-    ensures used { UsedBelow n trail.old trail.new }
+    ensures used { Used n marks.old halves.old points.old marks.new halves.new points.new }
 {
     let routes = routes_of(c);
-    clear(&mut trail.marks, n);
+    clear(marks, n);
     let mut t: usize = 0;
     for p in 0..n {
-        let w = walk(c, &routes, n, p, trail);
+        let w = walk(c, &routes, n, p, marks, halves, points);
         t += fan_of(w.length, w.normal);
     }
     t
 }
 
 // Writes the middles, which have room from point `at` on, and answers the next point.
-fn write_all<const N: usize>(
+fn write_all(
     c: Cell,
     n: usize,
-    trail: &mut Trail<N>,
+    marks: &mut [u16],
+    halves: &mut [u8],
+    points: &mut [u32],
     nodes: &[f64],
     area: &mut [f64],
     at: usize,
 ) -> usize
-    requires room { HasRoom c n trail.old }
+    requires room { Room c n marks.old halves.old points.old }
     requires middles_room { MiddlesRoom c area.old at }
     ensures stored { Stored area.old (coordinates * at) (all_numbers (cell_middles nodes.now (place_at area.old) c)) area.new (coordinates * result) }
-    ensures used { UsedBelow n trail.old trail.new }
+    ensures used { Used n marks.old halves.old points.old marks.new halves.new points.new }
 {
     let routes = routes_of(c);
     let q = nest_in(c, n);
-    clear(&mut trail.marks, n);
+    clear(marks, n);
     let mut i = at;
     for p in 0..n {
-        let w = walk(c, &routes, n, p, trail);
+        let w = walk(c, &routes, n, p, marks, halves, points);
         let m = w.length;
-        i = put_middle(
-            c,
-            q,
-            nodes,
-            &trail.halves[..m],
-            &trail.points[..m],
-            w.normal,
-            area,
-            i,
-        );
+        i = put_middle(c, q, nodes, &halves[0..m], &points[0..m], w.normal, area, i);
     }
     i
 }
 
 // How many fans the cell has, and at once for a cell without crossings. What the arrays hold before does not matter, here and below.
-pub(crate) fn fans_in<const N: usize>(c: Cell, n: usize, trail: &mut Trail<N>) -> usize
-    requires { HasRoom c n trail.old }
+pub(crate) fn fans_in(
+    c: Cell,
+    n: usize,
+    marks: &mut [u16],
+    halves: &mut [u8],
+    points: &mut [u32],
+) -> usize
+    requires { Room c n marks.old halves.old points.old }
     ensures value { (result ≡ fan_count c) × (result ≤ most_in_cell) }
-    ensures used { UsedBelow n trail.old trail.new }
+    ensures used { Used n marks.old halves.old points.old marks.new halves.new points.new }
 {
     if n == 0 {
         return 0;
     }
-    count(c, n, trail)
+    count(c, n, marks, halves, points)
 }
 
 // Whether the cell's crossings have numbers below n, by the highest. With a way out at each edge the walks are not compiled in place (SPEED.md).
@@ -153,16 +152,18 @@ fn is_placeable(c: Cell, n: usize, at: usize) -> bool
 
 // Whether the cell's middles can be written from point `at` on, and have room there in an area of `room` numbers. A cell has no more fans than
 // crossings, so that they are counted only where there is not room for so many.
-pub(crate) fn has_room<const N: usize>(
+pub(crate) fn has_room(
     c: Cell,
     n: usize,
-    trail: &mut Trail<N>,
+    marks: &mut [u16],
+    halves: &mut [u8],
+    points: &mut [u32],
     room: usize,
     at: usize,
 ) -> bool
-    requires { HasRoom c n trail.old }
+    requires { Room c n marks.old halves.old points.old }
     ensures value { result ≡ (is_placeable c at && leb (at + fan_count c) (room / coordinates)) }
-    ensures used { UsedBelow n trail.old trail.new }
+    ensures used { Used n marks.old halves.old points.old marks.new halves.new points.new }
 {
     let all = room / 3;
     if all < at {
@@ -174,29 +175,31 @@ pub(crate) fn has_room<const N: usize>(
     if n <= all - at {
         return true;
     }
-    let t = count(c, n, trail);
+    let t = count(c, n, marks, halves, points);
     t <= all - at
 }
 
 // Writes the middles of the cell's fans from point `at` of the area on and answers the next point. Where they have no room there, or the place of a
 // crossing of the cell that they go by does not stand before that point, it writes nothing and answers `at`.
-pub(crate) fn middles_in<const N: usize>(
+pub(crate) fn middles_in(
     c: Cell,
     n: usize,
-    trail: &mut Trail<N>,
+    marks: &mut [u16],
+    halves: &mut [u8],
+    points: &mut [u32],
     nodes: &[f64],
     area: &mut [f64],
     at: usize,
 ) -> usize
-    requires { HasRoom c n trail.old }
+    requires { Room c n marks.old halves.old points.old }
     ensures value { (result ≡ next_point nodes.now c area.old at) × (area.new ≡ points_then nodes.now c area.old at) }
-    ensures used { UsedBelow n trail.old trail.new }
+    ensures used { Used n marks.old halves.old points.old marks.new halves.new points.new }
 {
     if n == 0 {
         return at;
     }
-    if has_room(c, n, trail, area.len(), at) {
-        return write_all(c, n, trail, nodes, area, at);
+    if has_room(c, n, marks, halves, points, area.len(), at) {
+        return write_all(c, n, marks, halves, points, nodes, area, at);
     }
     at
 }

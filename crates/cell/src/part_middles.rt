@@ -4,7 +4,7 @@ ghost use Rattle.std.specs.Prelude.{◌≡◌, ◌*◌};
 ghost use Rattle.counting.specs.work.Stored.{Stored};
 ghost use Rattle.place.specs.Place.{coordinates, place_at, all_numbers};
 ghost use Rattle.cell.specs.work.Route.{limited};
-ghost use Rattle.cell.specs.work.Trail.{HasRoom, UsedBelow};
+ghost use Rattle.cell.specs.work.Walked.{Room, Used};
 ghost use Rattle.cell.specs.claims.Middles.{cell_middles, points_then, next_point};
 ghost use Rattle.cell.specs.work.Centres.{MiddlesRoom};
 
@@ -13,33 +13,35 @@ use super::nests::nest_in;
 use super::parts::SOME_IN_CELL;
 use super::routes::{crossings_of, routes_of, within};
 use super::walks::{clear, walk};
-use super::{Cell, FEW_IN_CELL, MOST_IN_CELL, Trail};
+use super::{Cell, FEW_IN_CELL, MOST_IN_CELL};
 
 // Writes the middles, which have room from point `at` on, and answers the next point.
-fn write_each<const N: usize>(
+fn write_each(
     c: Cell,
     n: usize,
-    trail: &mut Trail<N>,
+    marks: &mut [u16],
+    halves: &mut [u8],
+    points: &mut [u32],
     nodes: &[f64],
     area: &mut [f64],
     at: usize,
 ) -> usize
-    requires room { HasRoom c n trail.old }
+    requires room { Room c n marks.old halves.old points.old }
     requires middles_room { MiddlesRoom c area.old at }
     ensures stored { Stored area.old (coordinates * at) (all_numbers (cell_middles nodes.now (place_at area.old) c)) area.new (coordinates * result) }
-    ensures used { UsedBelow n trail.old trail.new }
+    ensures used { Used n marks.old halves.old points.old marks.new halves.new points.new }
 {
     let routes = routes_of(c);
     let q = nest_in(c, n);
-    clear(&mut trail.marks, n);
+    clear(marks, n);
     let mut i = at;
     for p in 0..n {
-        let w = walk(c, &routes, n, p, trail);
+        let w = walk(c, &routes, n, p, marks, halves, points);
         let m = w.length;
         if fan_of(m, w.normal) == 0 {
             continue;
         }
-        let v = middle_in(c, q, nodes, &trail.halves[..m], &trail.points[..m], area);
+        let v = middle_in(c, q, nodes, &halves[0..m], &points[0..m], area);
         place::store(area, i, v);
         i += 1;
     }
@@ -47,20 +49,22 @@ fn write_each<const N: usize>(
 }
 
 // The same where they have room, and the places of crossings that they go by stand before that point; else it writes nothing and answers `at`.
-fn put_each<const N: usize>(
+fn put_each(
     c: Cell,
     n: usize,
-    trail: &mut Trail<N>,
+    marks: &mut [u16],
+    halves: &mut [u8],
+    points: &mut [u32],
     nodes: &[f64],
     area: &mut [f64],
     at: usize,
 ) -> usize
-    requires { HasRoom c n trail.old }
+    requires { Room c n marks.old halves.old points.old }
     ensures value { (result ≡ next_point nodes.now c area.old at) × (area.new ≡ points_then nodes.now c area.old at) }
-    ensures used { UsedBelow n trail.old trail.new }
+    ensures used { Used n marks.old halves.old points.old marks.new halves.new points.new }
 {
-    if has_room(c, n, trail, area.len(), at) {
-        return write_each(c, n, trail, nodes, area, at);
+    if has_room(c, n, marks, halves, points, area.len(), at) {
+        return write_each(c, n, marks, halves, points, nodes, area, at);
     }
     at
 }
@@ -73,10 +77,19 @@ pub fn write_fans(c: Cell, nodes: &[f64], area: &mut [f64], at: usize) -> usize
     let v = within(c);
     let n = crossings_of(v);
     if n <= SOME_IN_CELL {
-        return put_each(v, n, &mut Trail::<SOME_IN_CELL>::new(), nodes, area, at);
+        let mut marks = [0u16; SOME_IN_CELL];
+        let mut halves = [0u8; SOME_IN_CELL];
+        let mut points = [0u32; SOME_IN_CELL];
+        return put_each(v, n, &mut marks, &mut halves, &mut points, nodes, area, at);
     }
     if n <= FEW_IN_CELL {
-        return put_each(v, n, &mut Trail::<FEW_IN_CELL>::new(), nodes, area, at);
+        let mut marks = [0u16; FEW_IN_CELL];
+        let mut halves = [0u8; FEW_IN_CELL];
+        let mut points = [0u32; FEW_IN_CELL];
+        return put_each(v, n, &mut marks, &mut halves, &mut points, nodes, area, at);
     }
-    put_each(v, n, &mut Trail::<MOST_IN_CELL>::new(), nodes, area, at)
+    let mut marks = [0u16; MOST_IN_CELL];
+    let mut halves = [0u8; MOST_IN_CELL];
+    let mut points = [0u32; MOST_IN_CELL];
+    put_each(v, n, &mut marks, &mut halves, &mut points, nodes, area, at)
 }

@@ -7,7 +7,7 @@ ghost use Rattle.counting.specs.Stored.{stored_in};
 ghost use Rattle.counting.specs.claims.Lists.{next_in};
 ghost use Rattle.manifold.specs.Shape.{fan, shape_of, many_of};
 ghost use Rattle.cell.specs.work.Route.{limited};
-ghost use Rattle.cell.specs.work.Trail.{HasRoom, UsedBelow};
+ghost use Rattle.cell.specs.work.Walked.{Room, Used};
 ghost use Rattle.cell.specs.Words.{word_count, all_words};
 ghost use Rattle.cell.specs.Triangles.{triangles_with};
 ghost use Rattle.cell.specs.work.Traced.{RecordedLoop, traced_triangle, traced_triangles};
@@ -17,7 +17,7 @@ use super::routes::{crossings_of, routes_of, within};
 use super::triangles::{has_room, leaves_out};
 use super::walks::{clear, walk};
 use super::words::{WORD_COUNT, put};
-use super::{Cell, FEW_IN_CELL, MOST_IN_CELL, Trail};
+use super::{Cell, FEW_IN_CELL, MOST_IN_CELL};
 
 // Writes the triangles of a recorded fan of n from index `at` on, and answers the next index.
 fn write_fan(c: Cell, halves: &[u8], points: &[u32], n: usize, area: &mut [u32], at: usize) -> usize
@@ -65,49 +65,53 @@ fn write_shape(
 }
 
 // Writes the words of the triangles of the loops asked for, which have room from index `at` on, and answers the next index.
-fn write_part<const N: usize>(
+fn write_part(
     c: Cell,
     n: usize,
     only: usize,
-    trail: &mut Trail<N>,
+    marks: &mut [u16],
+    halves: &mut [u8],
+    points: &mut [u32],
     area: &mut [u32],
     at: usize,
 ) -> usize
-    requires room { HasRoom c n trail.old }
+    requires room { Room c n marks.old halves.old points.old }
     requires only_in_bounds { at + word_count * length (triangles_with c only) ≤ length area.old }
     ensures value { (result ≡ at + word_count * length (triangles_with c only)) × (area.new ≡ sets area.old at (all_words (triangles_with c only))) }
-    ensures used { UsedBelow n trail.old trail.new }
+    ensures used { Used n marks.old halves.old points.old marks.new halves.new points.new }
 {
     let routes = routes_of(c);
-    clear(&mut trail.marks, n);
+    clear(marks, n);
     let mut i = at;
     for p in 0..n {
-        let w = walk(c, &routes, n, p, trail);
+        let w = walk(c, &routes, n, p, marks, halves, points);
         let m = w.length;
         if leaves_out(only, m) {
             continue;
         }
         let two = in_two(m, w.normal);
-        i = write_shape(c, &trail.halves[..m], &trail.points[..m], m, two, area, i);
+        i = write_shape(c, &halves[0..m], &points[0..m], m, two, area, i);
     }
     i
 }
 
 // The same where they have room; else it writes nothing and answers `at`.
-fn put_part<const N: usize>(
+fn put_part(
     c: Cell,
     n: usize,
     only: usize,
-    trail: &mut Trail<N>,
+    marks: &mut [u16],
+    halves: &mut [u8],
+    points: &mut [u32],
     area: &mut [u32],
     at: usize,
 ) -> usize
-    requires { HasRoom c n trail.old }
+    requires { Room c n marks.old halves.old points.old }
     ensures value { (result ≡ next_in area.old at (all_words (triangles_with c only))) × (area.new ≡ stored_in area.old at (all_words (triangles_with c only))) }
-    ensures used { UsedBelow n trail.old trail.new }
+    ensures used { Used n marks.old halves.old points.old marks.new halves.new points.new }
 {
-    if has_room(c, n, only, trail, area.len(), at) {
-        return write_part(c, n, only, trail, area, at);
+    if has_room(c, n, only, marks, halves, points, area.len(), at) {
+        return write_part(c, n, only, marks, halves, points, area, at);
     }
     at
 }
@@ -125,13 +129,25 @@ pub fn write_loops(c: Cell, only: usize, area: &mut [u32], at: usize) -> usize
     let v = within(c);
     let n = crossings_of(v);
     if n <= SOME_IN_CELL {
-        return put_part(v, n, only, &mut Trail::<SOME_IN_CELL>::new(), area, at);
+        let mut marks = [0u16; SOME_IN_CELL];
+        let mut halves = [0u8; SOME_IN_CELL];
+        let mut points = [0u32; SOME_IN_CELL];
+        return put_part(v, n, only, &mut marks, &mut halves, &mut points, area, at);
     }
     if n <= FEW_IN_CELL {
-        return put_part(v, n, only, &mut Trail::<FEW_IN_CELL>::new(), area, at);
+        let mut marks = [0u16; FEW_IN_CELL];
+        let mut halves = [0u8; FEW_IN_CELL];
+        let mut points = [0u32; FEW_IN_CELL];
+        return put_part(v, n, only, &mut marks, &mut halves, &mut points, area, at);
     }
     if n <= MANY_IN_CELL {
-        return put_part(v, n, only, &mut Trail::<MANY_IN_CELL>::new(), area, at);
+        let mut marks = [0u16; MANY_IN_CELL];
+        let mut halves = [0u8; MANY_IN_CELL];
+        let mut points = [0u32; MANY_IN_CELL];
+        return put_part(v, n, only, &mut marks, &mut halves, &mut points, area, at);
     }
-    put_part(v, n, only, &mut Trail::<MOST_IN_CELL>::new(), area, at)
+    let mut marks = [0u16; MOST_IN_CELL];
+    let mut halves = [0u8; MOST_IN_CELL];
+    let mut points = [0u32; MOST_IN_CELL];
+    put_part(v, n, only, &mut marks, &mut halves, &mut points, area, at)
 }

@@ -6,11 +6,10 @@ ghost use Rattle.cell.specs.Cell.{crossings, holds};
 ghost use Rattle.cell.specs.Of.{edges_of};
 ghost use Rattle.cell.specs.work.Scratch.{unmarked};
 ghost use Rattle.cell.specs.work.Route.{Routed};
-ghost use Rattle.cell.specs.work.Walked.{Located, Starts, is_met};
-ghost use Rattle.cell.specs.work.Trail.{LentTo, WalkedOn};
+ghost use Rattle.cell.specs.work.Walked.{Located, Starts, is_met, Lent, Walked};
 
 use super::routes::ROUTES;
-use super::{Cell, Dart, Trail, Trip, half_edges, routes, steps};
+use super::{Cell, Dart, Trip, half_edges, routes, steps};
 
 // The mark of a crossing that no walk has come to.
 const UNMARKED: u16 = 65535;
@@ -86,17 +85,19 @@ fn met(marks: &[u16], p: usize, x: usize) -> bool
 
 // Records the loop whose least crossing is p, and answers its length and whether it is normal; where there is no such loop, length 0. What the
 // walk comes to is marked with p; it stops where an earlier walk has been. The cell has n crossings.
-pub(crate) fn walk<const N: usize>(
+pub(crate) fn walk(
     c: Cell,
     routes: &[usize; ROUTES],
     n: usize,
     p: usize,
-    trail: &mut Trail<N>,
+    marks: &mut [u16],
+    halves: &mut [u8],
+    points: &mut [u32],
 ) -> Trip
-    requires { LentTo c routes.now n p trail.old }
-    ensures { WalkedOn c n p trail.old result trail.new }
+    requires { Lent c routes.now n p marks.old halves.old points.old }
+    ensures { Walked c n p marks.old halves.old points.old result.length result.normal marks.new halves.new points.new }
 {
-    if met(&trail.marks, p, p) {
+    if met(marks, p, p) {
         return NO_LOOP;
     }
     let mut d = start_at(c, routes, p);
@@ -105,8 +106,8 @@ pub(crate) fn walk<const N: usize>(
     // Stays: a loop, since the next dart comes from the last and not from a range.
     loop {
         let h = d.half;
-        trail.halves[k] = h as u8;
-        trail.points[k] = (routes[9 * h + routes::START] + d.index) as u32;
+        halves[k] = h as u8;
+        points[k] = (routes[9 * h + routes::START] + d.index) as u32;
         k += 1;
         let Some((e, along)) = steps::next(c, routes, d) else {
             return NO_LOOP;
@@ -116,10 +117,10 @@ pub(crate) fn walk<const N: usize>(
         if x == p {
             return Trip { length: k, normal };
         }
-        if met(&trail.marks, p, x) {
+        if met(marks, p, x) {
             return NO_LOOP;
         }
-        trail.marks[x] = p as u16;
+        marks[x] = p as u16;
         d = e;
     }
 }

@@ -4,4 +4,4 @@ use Rattle.cell.proofs.Cells.{least_at, Seeking}
 use Rattle.cell.proofs.loop_in.Given as goal
 
 abbrev pub invariant-loop-p : goal.invariant-loop-p
-invariant-loop-p g l = Going l.c l.n l.routes l.initial.trail.marks l.initial.trail.halves l.initial.trail.points l.trail.marks l.trail.halves l.trail.points l.p × Seeking (least_at (edges_of l.c)) l.k l.p l.left
+invariant-loop-p l = Going l.c l.n l.routes l.initial.marks l.initial.halves l.initial.points l.marks l.halves l.points l.p × Seeking (least_at (edges_of l.c)) l.k l.p l.left

@@ -28,19 +28,19 @@ module _ (cells counts names sides starts : List ℕ) {n t : ℕ} (S : Summed (w
   walked e x q = summed_more (walked_at cells counts names sides starts) most_in_cell S x (rw e q)
 
 pub drawn-n-requires : goal.drawn-n-requires
-drawn-n-requires g c = tt
+drawn-n-requires c = tt
 
 pub loop-c-init : goal.loop-c-init
-loop-c-init g c = (sized_none _ _ _, summed_none _ _)
+loop-c-init c = (sized_none _ _ _, summed_none _ _)
 
 pub counts_at-requires : goal.counts_at-requires
-counts_at-requires g c = tt
+counts_at-requires c = tt
 
 pub is_known-requires : goal.is_known-requires
-is_known-requires g c = tt
+is_known-requires c = tt
 
 pub loop-c-preserved-then-is_known : goal.loop-c-preserved-then-is_known
-loop-c-preserved-then-is_known g c = let A = c.args in
+loop-c-preserved-then-is_known c = let A = c.args in
     let I = c.loop-c.invariant in (
       I.0,
       passed A.tables.cells.now A.tables.counts.now A.tables.names.now A.tables.sides.now A.tables.starts.now I.1
@@ -48,22 +48,19 @@ loop-c-preserved-then-is_known g c = let A = c.args in
     )
 
 pub counted_at-x-requires : goal.counted_at-x-requires
-counted_at-x-requires g c = tt
+counted_at-x-requires c = tt
 
 pub count_in-t-requires : goal.count_in-t-requires
-count_in-t-requires g c = (
-  omega arith,
-  let A = c.args in
-      let L = c.loop-c in
-      let x = c.counted_at-x.ensures in
-      sized_room L.invariant.0 A.tables.cells.now A.tables.counts.now A.tables.names.now A.tables.sides.now A.tables.starts.now L.c c.requires x.0 x.1 x.2,
-)
+count_in-t-requires c = let A = c.args in
+    let L = c.loop-c in
+    let x = c.counted_at-x.ensures in
+    sized_room L.invariant.0 A.tables.cells.now A.tables.counts.now A.tables.names.now A.tables.sides.now A.tables.starts.now L.c c.requires x.0 x.1 x.2
 
 pub overflow_add-t : goal.overflow_add-t
-overflow_add-t g c = omega (arith, c.count_in-t.ensures.value.1, c.loop-c.invariant.1.few, c.drawn-n.ensures)
+overflow_add-t c = omega (arith, c.count_in-t.ensures.value.1, c.loop-c.invariant.1.few, c.drawn-n.ensures)
 
 pub loop-c-preserved : goal.loop-c-preserved
-loop-c-preserved g c = let A = c.args in
+loop-c-preserved c = let A = c.args in
     let I = c.loop-c.invariant in
     let N = c.count_in-t.ensures in (
       sized_on I.0 (used_sized N.used),
@@ -72,7 +69,16 @@ loop-c-preserved g c = let A = c.args in
           _ (N.value.0 ∙ ap length (with_all _) ∙ ap (λ v. length (cell_triangles v)) c.counted_at-x.ensures.0) N.value.1,
     )
 
+pub shape_of-marks : goal.shape_of-marks
+shape_of-marks c = c.loop-c.invariant.0.marks_same
+
+pub shape_of-halves : goal.shape_of-halves
+shape_of-halves c = c.loop-c.invariant.0.halves_same
+
+pub shape_of-points : goal.shape_of-points
+shape_of-points c = c.loop-c.invariant.0.points_same
+
 pub returns : goal.returns
-returns g c = let I = c.loop-c.invariant in
+returns c = let I = c.loop-c.invariant in
     let d = c.drawn-n.ensures in
     record { value = (summed_all _ _ I.1 (omega (arith, d)), omega (arith, I.1.few, d)); sized = I.0 }

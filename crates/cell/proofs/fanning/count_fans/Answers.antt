@@ -1,9 +1,13 @@
 use native.Mathlib.Omega.{arith}
-use Rattle.cell.proofs.Using.{long_enough, table_few, table_most}
+use Rattle.cell.proofs.Using.{table_few, table_most}
 use Rattle.cell.proofs.fanning.count_fans.Goals as goal
 
 pub fans_in_all-requires : goal.fans_in_all-requires
-fans_in_all-requires c = (omega arith, λ k. (let t = c.args.tables in long_enough c.new.ensures (table_few t.counts.now t.sides.now k (λ i. omega (arith, c.greatest.ensures i)))))
+fans_in_all-requires c k = let A = c.args in
+    let h = table_few A.tables.counts.now A.tables.sides.now k (λ i. omega (arith, c.greatest.ensures i)) in
+    record { marks_long = h; halves_long = h; points_long = h }
 
 pub fans_in_all-requires-2 : goal.fans_in_all-requires-2
-fans_in_all-requires-2 c = (omega arith, λ k. (let t = c.args.tables in long_enough c.new-2.ensures (table_most t.counts.now t.sides.now k)))
+fans_in_all-requires-2 c k = let A = c.args in
+    let h = table_most A.tables.counts.now A.tables.sides.now k in
+    record { marks_long = h; halves_long = h; points_long = h }

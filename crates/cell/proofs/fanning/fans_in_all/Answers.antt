@@ -7,31 +7,37 @@ use Rattle.cell.proofs.Using.{used_sized, sized_none, sized_on, sized_room}
 use Rattle.cell.proofs.fanning.fans_in_all.Goals as goal
 
 pub drawn-n-requires : goal.drawn-n-requires
-drawn-n-requires g c = tt
+drawn-n-requires c = tt
 
 pub loop-c-init : goal.loop-c-init
-loop-c-init g c = (sized_none _ _ _, summed_none _ _)
+loop-c-init c = (sized_none _ _ _, summed_none _ _)
 
 pub counted_at-x-requires : goal.counted_at-x-requires
-counted_at-x-requires g c = tt
+counted_at-x-requires c = tt
 
 pub fans_in-t-requires : goal.fans_in-t-requires
-fans_in-t-requires g c = (
-  omega arith,
-  let A = c.args in
-      let L = c.loop-c in
-      let x = c.counted_at-x.ensures in
-      sized_room L.invariant.0 A.tables.cells.now A.tables.counts.now A.tables.names.now A.tables.sides.now A.tables.starts.now L.c c.requires x.0 x.1 x.2,
-)
+fans_in-t-requires c = let A = c.args in
+    let L = c.loop-c in
+    let x = c.counted_at-x.ensures in
+    sized_room L.invariant.0 A.tables.cells.now A.tables.counts.now A.tables.names.now A.tables.sides.now A.tables.starts.now L.c c.requires x.0 x.1 x.2
 
 pub overflow_add-t : goal.overflow_add-t
-overflow_add-t g c = omega (arith, c.fans_in-t.ensures.value.1, c.loop-c.invariant.1.few, c.drawn-n.ensures)
+overflow_add-t c = omega (arith, c.fans_in-t.ensures.value.1, c.loop-c.invariant.1.few, c.drawn-n.ensures)
 
 pub loop-c-preserved : goal.loop-c-preserved
-loop-c-preserved g c = let L = c.loop-c in
+loop-c-preserved c = let L = c.loop-c in
     let N = c.fans_in-t.ensures in
     (sized_on L.invariant.0 (used_sized N.used), summed_more _ _ L.invariant.1 _ (N.value.0 ∙ ap fan_count c.counted_at-x.ensures.0) N.value.1)
 
+pub shape_of-marks : goal.shape_of-marks
+shape_of-marks c = c.loop-c.invariant.0.marks_same
+
+pub shape_of-halves : goal.shape_of-halves
+shape_of-halves c = c.loop-c.invariant.0.halves_same
+
+pub shape_of-points : goal.shape_of-points
+shape_of-points c = c.loop-c.invariant.0.points_same
+
 pub returns : goal.returns
 unfolding table_fans
-returns g c = let S = c.loop-c.invariant.1 in record { value = (summed_all _ _ S (omega (arith, c.drawn-n.ensures)), omega (arith, S.few, c.drawn-n.ensures)); sized = c.loop-c.invariant.0 }
+returns c = let S = c.loop-c.invariant.1 in record { value = (summed_all _ _ S (omega (arith, c.drawn-n.ensures)), omega (arith, S.few, c.drawn-n.ensures)); sized = c.loop-c.invariant.0 }

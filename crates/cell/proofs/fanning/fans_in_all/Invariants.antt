@@ -6,4 +6,4 @@ use Rattle.cell.specs.work.Walked.{Sized}
 use Rattle.cell.proofs.fanning.fans_in_all.Given as goal
 
 abbrev pub invariant-loop-c : goal.invariant-loop-c
-invariant-loop-c g l = Sized l.initial.trail.marks l.initial.trail.halves l.initial.trail.points l.trail.marks l.trail.halves l.trail.points × Summed (λ k. fan_count (table_cell l.tables.cells.now l.tables.counts.now l.tables.names.now l.tables.sides.now l.tables.starts.now k)) most_in_cell l.c l.t
+invariant-loop-c l = Sized l.initial.marks l.initial.halves l.initial.points l.marks l.halves l.points × Summed (λ k. fan_count (table_cell l.tables.cells.now l.tables.counts.now l.tables.names.now l.tables.sides.now l.tables.starts.now k)) most_in_cell l.c l.t

@@ -7,4 +7,4 @@ use Rattle.cell.proofs.Fans.{middle_of}
 use Rattle.cell.proofs.middles.write_all.Given as goal
 
 abbrev pub invariant-loop-p : goal.invariant-loop-p
-invariant-loop-p g l = Going l.c l.n l.routes l.initial.trail.marks l.initial.trail.halves l.initial.trail.points l.trail.marks l.trail.halves l.trail.points l.p × Stored l.initial.area (coordinates * l.at) (over (middle_of l.nodes l.c l.initial.area) l.p 0) l.area (coordinates * l.i)
+invariant-loop-p l = Going l.c l.n l.routes l.initial.marks l.initial.halves l.initial.points l.marks l.halves l.points l.p × Stored l.initial.area (coordinates * l.at) (over (middle_of l.nodes l.c l.initial.area) l.p 0) l.area (coordinates * l.i)

@@ -1,4 +1,3 @@
-use native.Mathlib.Omega.{arith}
 use mathlib.Core.Path.{sym, ◌∙◌}
 use borrow.Author.Tests.{leb-true, leb-false}
 use Rattle.cell.proofs.Fits.{no_room, has-room}
@@ -6,13 +5,13 @@ use Rattle.cell.proofs.Using.{used_sized, used_then, sized_given}
 use Rattle.cell.proofs.parts.put_part.Goals as goal
 
 pub write_part-requires : goal.write_part-requires
-write_part-requires g c = (omega arith, let h = c.has_room.ensures in (sized_given (used_sized h.used) c.requires, leb-true _ _ (sym h.value ∙ c.if-has_room.true)))
+write_part-requires c = let h = c.has_room.ensures in record { room = sized_given (used_sized h.used) c.requires; only_in_bounds = leb-true _ _ (sym h.value ∙ c.if-has_room.true) }
 
 pub returns-then-has_room : goal.returns-then-has_room
-returns-then-has_room g c = let h = c.has_room.ensures in
+returns-then-has_room c = let h = c.has_room.ensures in
     let R = has-room _ _ _ (leb-true _ _ (sym h.value ∙ c.if-has_room.true)) in
     let W = c.write_part.ensures in
     record { value = (W.value.0 ∙ R.0, W.value.1 ∙ R.1); used = used_then h.used W.used }
 
 pub returns : goal.returns
-returns g c = let h = c.has_room.ensures in record { value = no_room _ _ _ (leb-false _ _ (sym h.value ∙ c.if-has_room.false)); used = h.used }
+returns c = let h = c.has_room.ensures in record { value = no_room _ _ _ (leb-false _ _ (sym h.value ∙ c.if-has_room.false)); used = h.used }

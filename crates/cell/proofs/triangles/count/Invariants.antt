@@ -5,4 +5,4 @@ use Rattle.cell.proofs.Cells.{many_at}
 use Rattle.cell.proofs.triangles.count.Given as goal
 
 abbrev pub invariant-loop-p : goal.invariant-loop-p
-invariant-loop-p g l = Going l.c l.n l.routes l.initial.trail.marks l.initial.trail.halves l.initial.trail.points l.trail.marks l.trail.halves l.trail.points l.p × Summed (many_at l.c l.only) most_in_cell l.p l.t
+invariant-loop-p l = Going l.c l.n l.routes l.initial.marks l.initial.halves l.initial.points l.marks l.halves l.points l.p × Summed (many_at l.c l.only) most_in_cell l.p l.t

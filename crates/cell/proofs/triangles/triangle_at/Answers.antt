@@ -1,14 +1,13 @@
 use native.Mathlib.Omega.{arith}
-use lib.Seq.{length-take-le}
 use Prim.Native.Nat.{ℕ}
-use mathlib.Core.Path.{◌≡◌, sym, ◌∙◌, subst}
+use mathlib.Core.Path.{◌≡◌, refl, sym, ◌∙◌, subst}
 use Rattle.cell.specs.declared.Cell.{Cell}
 use Rattle.std.proofs.Common.{Option}
 use Rattle.cell.specs.declared.Triangle.{Triangle}
 use Rattle.cell.specs.work.Route.{Near}
 use Rattle.cell.specs.work.Nth.{nth_of, nth_numbers, nth_answer}
 use Rattle.cell.specs.Triangles.{cell_triangles}
-use Rattle.cell.proofs.Using.{limited_near, long_enough}
+use Rattle.cell.proofs.Using.{filled_same, limited_near}
 use Rattle.cell.proofs.Going.{going_start, going_in, going_lent, going_more, going_looped, going_part}
 use Rattle.cell.proofs.LoopTriangles.{traced_entry}
 use Rattle.cell.proofs.Taken.{two_four}
@@ -30,14 +29,26 @@ crossings_of-n-requires c = tt
 pub routes_of-routes-requires : goal.routes_of-routes-requires
 routes_of-routes-requires c = subst Near (sym c.within-v.ensures) (limited_near _)
 
+pub slice_bounds-clear-end : goal.slice_bounds-clear-end
+slice_bounds-clear-end c = refl
+
 pub clear-requires : goal.clear-requires
-clear-requires c = (long_enough c.new-trail.ensures c.crossings_of-n.ensures.1).marks_long
+clear-requires c = c.crossings_of-n.ensures.1
 
 pub loop-p-init : goal.loop-p-init
-loop-p-init c = (going_start _ c.crossings_of-n.ensures c.routes_of-routes.ensures (long_enough c.new-trail.ensures c.crossings_of-n.ensures.1) c.clear.ensures, seeking_none _ _)
+loop-p-init c = (going_start _ c.crossings_of-n.ensures c.routes_of-routes.ensures (record { marks_long = c.crossings_of-n.ensures.1; halves_long = c.crossings_of-n.ensures.1; points_long = c.crossings_of-n.ensures.1 }) c.clear.ensures, seeking_none _ _)
+
+pub slice_bounds-walk-end : goal.slice_bounds-walk-end
+slice_bounds-walk-end c = sym (c.loop-p.invariant.0.used.marks_kept.long ∙ filled_same _ _ _ c.clear.ensures)
+
+pub slice_bounds-walk-end-in-loop-p : goal.slice_bounds-walk-end-in-loop-p
+slice_bounds-walk-end-in-loop-p c = sym c.loop-p.invariant.0.used.halves_kept.long
+
+pub slice_bounds-walk-end-in-loop-p-2 : goal.slice_bounds-walk-end-in-loop-p-2
+slice_bounds-walk-end-in-loop-p-2 c = sym c.loop-p.invariant.0.used.points_kept.long
 
 pub walk-w-requires : goal.walk-w-requires
-walk-w-requires c = (omega arith, going_lent c.loop-p.invariant.0 (omega arith))
+walk-w-requires c = going_lent c.loop-p.invariant.0 (omega arith)
 
 pub in_two-two-requires : goal.in_two-two-requires
 in_two-two-requires c = tt
@@ -45,14 +56,11 @@ in_two-two-requires c = tt
 pub many-k-requires : goal.many-k-requires
 many-k-requires c = two_four _ _ _ c.in_two-two.ensures
 
-pub shared_ref_as_front-triangle_of : goal.shared_ref_as_front-triangle_of
-shared_ref_as_front-triangle_of c = omega (arith, (going_part c.loop-p.invariant.0 (omega arith) c.walk-w.ensures).0)
-
 pub slice_bounds-triangle_of-end : goal.slice_bounds-triangle_of-end
-slice_bounds-triangle_of-end c = sym (length-take-le _ _ (going_part c.loop-p.invariant.0 (omega arith) c.walk-w.ensures).0)
+slice_bounds-triangle_of-end c = (going_part c.loop-p.invariant.0 (omega arith) c.walk-w.ensures).0
 
 pub slice_bounds-triangle_of-end-then-left-k : goal.slice_bounds-triangle_of-end-then-left-k
-slice_bounds-triangle_of-end-then-left-k c = sym (length-take-le _ _ (going_part c.loop-p.invariant.0 (omega arith) c.walk-w.ensures).1)
+slice_bounds-triangle_of-end-then-left-k c = (going_part c.loop-p.invariant.0 (omega arith) c.walk-w.ensures).1
 
 pub triangle_of-requires : goal.triangle_of-requires
 triangle_of-requires c = let L = going_looped c.loop-p.invariant.0 (omega arith) c.walk-w.ensures in record { recorded_loop = looped_traced L; n_value = looped_four L c.in_two-two.ensures; k_bound = omega (arith, c.many-k.ensures) }

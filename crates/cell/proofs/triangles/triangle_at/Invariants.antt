@@ -4,4 +4,4 @@ use Rattle.cell.proofs.Cells.{Seeking}
 use Rattle.cell.proofs.triangles.triangle_at.Given as goal
 
 abbrev pub invariant-loop-p : goal.invariant-loop-p
-invariant-loop-p l = Going l.v l.n l.routes l.initial.trail.marks l.initial.trail.halves l.initial.trail.points l.trail.marks l.trail.halves l.trail.points l.p × Seeking (loop_triangles l.v) l.t l.p l.left
+invariant-loop-p l = Going l.v l.n l.routes l.initial.marks l.initial.halves l.initial.points l.marks l.halves l.points l.p × Seeking (loop_triangles l.v) l.t l.p l.left

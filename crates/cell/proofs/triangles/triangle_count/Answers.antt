@@ -1,13 +1,14 @@
-use native.Mathlib.Omega.{arith}
-use mathlib.Core.Path.{ap, ◌∙◌}
+use mathlib.Core.Path.{sym, ap, ◌∙◌, subst}
 use lib.ListN.{length}
+use Rattle.cell.specs.work.Route.{Near}
 use Rattle.cell.specs.Triangles.{cell_triangles}
 use Rattle.cell.proofs.Taken.{with_all}
-use Rattle.cell.proofs.Using.{limited_room}
+use Rattle.cell.proofs.Using.{limited_near}
+use borrow.Author.Rules.{rules}
 use Rattle.cell.proofs.triangles.triangle_count.Goals as goal
 
 pub count_in-requires : goal.count_in-requires
-count_in-requires c = (omega arith, limited_room _ c.within-v.ensures c.crossings_of-n.ensures c.new-trail.ensures (omega arith))
+count_in-requires c = record { near = subst Near (sym c.within-v.ensures) (limited_near _); all = search rules; few = search rules; long = search rules }
 
 pub returns : goal.returns
 returns c = let N = c.count_in.ensures.value in
