@@ -11,9 +11,6 @@ use Rattle.cell.proofs.answers.crosses_of.Goals as goal
 pub loop-k-init : goal.loop-k-init
 loop-k-init c = summed_none _ _
 
-pub same-x-requires : goal.same-x-requires
-same-x-requires c = tt
-
 pub overflow_add-x : goal.overflow_add-x
 overflow_add-x c = omega (arith, c.loop-k.invariant.few, c.ranges)
 

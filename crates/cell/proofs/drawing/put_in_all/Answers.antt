@@ -9,9 +9,6 @@ use Rattle.cell.proofs.drawing.put_in_all.Goals as goal
 pub loop-k-init : goal.loop-k-init
 loop-k-init c = ((omega arith, omega arith), sized_none _ _ _, put_none _ _ _ _)
 
-pub counted_at-x-requires : goal.counted_at-x-requires
-counted_at-x-requires c = tt
-
 pub put_in-i-requires : goal.put_in-i-requires
 put_in-i-requires c = let A = c.args in
     let L = c.loop-k in

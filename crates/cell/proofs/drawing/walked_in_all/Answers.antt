@@ -27,17 +27,8 @@ module _ (cells counts names sides starts : List ℕ) {n t : ℕ} (S : Summed (w
   unfolding walked_at
   walked e x q = summed_more (walked_at cells counts names sides starts) most_in_cell S x (rw e q)
 
-pub drawn-n-requires : goal.drawn-n-requires
-drawn-n-requires c = tt
-
 pub loop-c-init : goal.loop-c-init
 loop-c-init c = (sized_none _ _ _, summed_none _ _)
-
-pub counts_at-requires : goal.counts_at-requires
-counts_at-requires c = tt
-
-pub is_known-requires : goal.is_known-requires
-is_known-requires c = tt
 
 pub loop-c-preserved-then-is_known : goal.loop-c-preserved-then-is_known
 loop-c-preserved-then-is_known c = let A = c.args in
@@ -46,9 +37,6 @@ loop-c-preserved-then-is_known c = let A = c.args in
       passed A.tables.cells.now A.tables.counts.now A.tables.names.now A.tables.sides.now A.tables.starts.now I.1
           (ap (λ l. is_known (by_edge l)) (sym c.counts_at.ensures) ∙ sym c.is_known.ensures ∙ c.if-is_known.true),
     )
-
-pub counted_at-x-requires : goal.counted_at-x-requires
-counted_at-x-requires c = tt
 
 pub count_in-t-requires : goal.count_in-t-requires
 count_in-t-requires c = let A = c.args in

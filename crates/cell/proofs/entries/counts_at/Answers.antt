@@ -8,9 +8,6 @@ use Rattle.cell.proofs.entries.counts_at.Goals as goal
 pub loop-k-init : goal.loop-k-init
 loop-k-init c = valued_none _ _ refl
 
-pub entry-requires : goal.entry-requires
-entry-requires c = tt
-
 pub loop-k-preserved : goal.loop-k-preserved
 loop-k-preserved c =
     valued_more _ _ c.loop-k.invariant (omega arith) _

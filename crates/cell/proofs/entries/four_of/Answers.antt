@@ -6,9 +6,6 @@ use Rattle.cell.proofs.entries.four_of.Goals as goal
 pub loop-i-init : goal.loop-i-init
 loop-i-init c = valued_none _ _ refl
 
-pub entry-requires : goal.entry-requires
-entry-requires c = tt
-
 pub loop-i-preserved : goal.loop-i-preserved
 loop-i-preserved c = valued_more _ _ c.loop-i.invariant (omega arith) _ c.entry.ensures
 

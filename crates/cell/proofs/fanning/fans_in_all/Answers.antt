@@ -6,14 +6,8 @@ use Rattle.cell.specs.work.Table.{table_fans}
 use Rattle.cell.proofs.Using.{used_sized, sized_none, sized_on, sized_room}
 use Rattle.cell.proofs.fanning.fans_in_all.Goals as goal
 
-pub drawn-n-requires : goal.drawn-n-requires
-drawn-n-requires c = tt
-
 pub loop-c-init : goal.loop-c-init
 loop-c-init c = (sized_none _ _ _, summed_none _ _)
-
-pub counted_at-x-requires : goal.counted_at-x-requires
-counted_at-x-requires c = tt
 
 pub fans_in-t-requires : goal.fans_in-t-requires
 fans_in-t-requires c = let A = c.args in

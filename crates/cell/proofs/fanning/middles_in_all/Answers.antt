@@ -9,9 +9,6 @@ pub loop-k-init : goal.loop-k-init
 loop-k-init c = let A = c.args in
     ((omega arith, omega arith), sized_none _ _ _, written_none A.tables.cells.now A.tables.counts.now A.tables.names.now A.tables.sides.now A.tables.starts.now A.nodes.now A.c A.area.now A.at)
 
-pub counted_at-x-requires : goal.counted_at-x-requires
-counted_at-x-requires c = tt
-
 pub middles_in-i-requires : goal.middles_in-i-requires
 middles_in-i-requires c = let A = c.args in
     let L = c.loop-k in

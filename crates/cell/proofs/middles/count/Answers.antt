@@ -21,9 +21,6 @@ loop-p-init c = (going_start _ (c.requires.all, c.requires.few) c.routes_of-rout
 pub walk-w-requires : goal.walk-w-requires
 walk-w-requires c = going_lent c.loop-p.invariant.0 (omega arith)
 
-pub fan_of-t-requires : goal.fan_of-t-requires
-fan_of-t-requires c = tt
-
 pub overflow_add-t : goal.overflow_add-t
 overflow_add-t c = omega (arith, fans_more (going_looped c.loop-p.invariant.0 (omega arith) c.walk-w.ensures) c.loop-p.invariant.1 c.fan_of-t.ensures, count_le (is_fan c.args.c) (c.loop-p.p + 1), c.loop-p.invariant.0.few)
 

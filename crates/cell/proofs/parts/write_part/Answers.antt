@@ -24,16 +24,10 @@ loop-p-init c = (going_start _ (c.requires.room.all, c.requires.room.few) c.rout
 pub walk-w-requires : goal.walk-w-requires
 walk-w-requires c = going_lent c.loop-p.invariant.0 (omega arith)
 
-pub leaves_out-requires : goal.leaves_out-requires
-leaves_out-requires c = tt
-
 pub loop-p-preserved-then-leaves_out : goal.loop-p-preserved-then-leaves_out
 loop-p-preserved-then-leaves_out c = let L = c.loop-p in
     let W = c.walk-w.ensures in
     (going_more L.invariant.0 (omega arith) W, left_out c.args.only (going_looped L.invariant.0 (omega arith) W) c.leaves_out.ensures L.invariant.1 c.if-leaves_out.true)
-
-pub in_two-two-requires : goal.in_two-two-requires
-in_two-two-requires c = tt
 
 pub slice_bounds-write_shape-end : goal.slice_bounds-write_shape-end
 slice_bounds-write_shape-end c = (going_part c.loop-p.invariant.0 (omega arith) c.walk-w.ensures).0

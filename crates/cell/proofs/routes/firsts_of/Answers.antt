@@ -5,9 +5,6 @@ use Rattle.cell.proofs.routes.firsts_of.Goals as goal
 pub loop-k-init : goal.loop-k-init
 loop-k-init c = (omega arith, rises_one _ c.count_at-n.ensures)
 
-pub laid_of-requires : goal.laid_of-requires
-laid_of-requires c = tt
-
 pub returns-then-start_of : goal.returns-then-start_of
 returns-then-start_of c = c.laid_of.ensures
 

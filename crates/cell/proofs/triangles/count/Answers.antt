@@ -19,17 +19,11 @@ loop-p-init c = (going_start _ (c.requires.all, c.requires.few) c.routes_of-rout
 pub walk-w-requires : goal.walk-w-requires
 walk-w-requires c = going_lent c.loop-p.invariant.0 (omega arith)
 
-pub leaves_out-requires : goal.leaves_out-requires
-leaves_out-requires c = tt
-
 pub loop-p-preserved-then-leaves_out : goal.loop-p-preserved-then-leaves_out
 loop-p-preserved-then-leaves_out c = let L = c.loop-p in
     let W = c.walk-w.ensures in
     let O = going_looped L.invariant.0 (omega arith) W in
     (going_more L.invariant.0 (omega arith) W, counted_less c.args.only O L.invariant.1 (is_out c.args.only O c.leaves_out.ensures c.if-leaves_out.true))
-
-pub in_two-requires : goal.in_two-requires
-in_two-requires c = tt
 
 pub many-t-requires : goal.many-t-requires
 many-t-requires c = two_four _ _ _ c.in_two.ensures

@@ -20,12 +20,6 @@ as_limited : (t : ℕ) {v w : Cell} {r : Option Triangle} → v ≡ w → (r ≡
     → (r ≡ nth_of (cell_triangles w) t) × (nth_numbers r ≡ nth_answer (cell_triangles w) t)
 as_limited t {v} {w} {r} e h = subst (λ x. (r ≡ nth_of (cell_triangles x) t) × (nth_numbers r ≡ nth_answer (cell_triangles x) t)) e h
 
-pub within-v-requires : goal.within-v-requires
-within-v-requires c = tt
-
-pub crossings_of-n-requires : goal.crossings_of-n-requires
-crossings_of-n-requires c = tt
-
 pub routes_of-routes-requires : goal.routes_of-routes-requires
 routes_of-routes-requires c = subst Near (sym c.within-v.ensures) (limited_near _)
 
@@ -49,9 +43,6 @@ slice_bounds-walk-end-in-loop-p-2 c = sym c.loop-p.invariant.0.used.points_kept.
 
 pub walk-w-requires : goal.walk-w-requires
 walk-w-requires c = going_lent c.loop-p.invariant.0 (omega arith)
-
-pub in_two-two-requires : goal.in_two-two-requires
-in_two-two-requires c = tt
 
 pub many-k-requires : goal.many-k-requires
 many-k-requires c = two_four _ _ _ c.in_two-two.ensures

@@ -24,9 +24,6 @@ loop-p-init c = (going_start _ (c.requires.room.all, c.requires.room.few) c.rout
 pub walk-w-requires : goal.walk-w-requires
 walk-w-requires c = going_lent c.loop-p.invariant.0 (omega arith)
 
-pub in_two-two-requires : goal.in_two-two-requires
-in_two-two-requires c = tt
-
 pub slice_bounds-write_loop-end : goal.slice_bounds-write_loop-end
 slice_bounds-write_loop-end c = (going_part c.loop-p.invariant.0 (omega arith) c.walk-w.ensures).0
 
