@@ -34,9 +34,10 @@ fn byte_of(links: &[u16], area: &[u8], x: usize) -> u8
     let l = links[x] as usize;
     let p = l / 2;
     if p == x {
-        return 0;
+        0
+    } else {
+        ((area[p] as usize + l) % 2) as u8
     }
-    ((area[p] as usize + l) % 2) as u8
 }
 
 // Writes the bytes of all nodes. A parent stands before its children.

@@ -4,6 +4,7 @@ ghost use Rattle.std.specs.Prelude.{◌<◌};
 ghost use Rattle.shading.specs.work.Work.{Halvable, HalvedAt, Rooted, Found, Unitable, United, AllUnitable, UnitedAll, Rootable, Roots};
 
 // What a node that no cell has holds instead of a link.
+// Stays: a number and no Option, since the table of links is to be no larger than 8 KB (fixed memory).
 pub(crate) const NO_LINK: u16 = 65535;
 
 // Makes each node of the cells a root.
@@ -17,6 +18,7 @@ pub(crate) fn make_roots(cells: &[u16], links: &mut [u16])
 }
 
 // Links y, which is no root, to its parent's parent. The answer is its new link.
+// Stays: a link and the answer of `find` are 2 * node + side, since that is how the table holds them (fixed memory).
 fn halve(links: &mut [u16], y: usize) -> usize
     requires { Halvable links.old y }
     ensures { HalvedAt links.old y links.new result }
@@ -60,14 +62,14 @@ fn unite(links: &mut [u16], u: usize, v: usize, count: usize) -> bool
     let q = b / 2;
     let side = (a + b + count) % 2;
     if p == q {
-        return side == 0;
-    }
-    if p < q {
+        side == 0
+    } else if p < q {
         links[q] = (2 * p + side) as u16;
-        return true;
+        true
+    } else {
+        links[p] = (2 * q + side) as u16;
+        true
     }
-    links[p] = (2 * q + side) as u16;
-    true
 }
 
 // Unites the parts of the ends of each edge. False at the first edge with which the sides do not agree; the links are of no use then.

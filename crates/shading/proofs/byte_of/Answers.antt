@@ -14,6 +14,6 @@ pub bounds-area-p : goal.bounds-area-p
 bounds-area-p c = let P = c.requires in
     omega (arith, P.writable.room, P.x_lt_most_nodes, P.writable.forest.low_parent c.args.x (P.x_lt_most_nodes, c.if-links-x.false))
 
-pub returns : goal.returns
-returns c = let a = c.args in
+pub returns-else-p-x : goal.returns-else-p-x
+returns-else-p-x c = let a = c.args in
     child_read a.links.now a.area.now a.x c.if-links-x.false _ refl c.if-p-x.false _ refl

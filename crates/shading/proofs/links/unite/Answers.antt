@@ -25,12 +25,12 @@ returns-then-p-q-2 c = let a = c.args in
     let B = c.find-b in
     united_lower a.links.now _ _ a.u a.v a.count A.result B.result A.ensures B.ensures c.if-p-q-2.true
 
-pub shape_of-links : goal.shape_of-links
-shape_of-links c = let B = c.find-b.ensures in
+pub shape_of-links-else-p-q-2 : goal.shape_of-links-else-p-q-2
+shape_of-links-else-p-q-2 c = let B = c.find-b.ensures in
     simp length-set (B.halved.forest.long ∙ sym c.requires.unitable.forest.long)
 
-pub returns : goal.returns
-returns c = let a = c.args in
+pub returns-else-p-q-2 : goal.returns-else-p-q-2
+returns-else-p-q-2 c = let a = c.args in
     let A = c.find-a in
     let B = c.find-b in
     united_higher a.links.now _ _ a.u a.v a.count A.result B.result A.ensures B.ensures (omega (arith, c.if-p-q-2.false, c.if-p-q.false))
