@@ -17,7 +17,6 @@ use Rattle.place.proofs.Numbers.{length_numbers, points-then, point_stored}
 use Rattle.cell.specs.declared.Cell.{Cell}
 use Rattle.cell.specs.Of.{count_of}
 use Rattle.booking.specs.Booking.{larger, smaller}
-use Rattle.split.specs.declared.Spiral.{Spiral}
 use Rattle.split.specs.Limits.{word_step}
 use Rattle.split.specs.Labels.{labelled, spoke}
 use Rattle.split.specs.SubCell.{sub}
@@ -95,7 +94,7 @@ module _ (w : ℕ → ℕ) (at : List Place) where
   arms_all i S e = stored_as S (ap (λ n. over arm n 0) e ∙ sym all_arms) refl
 
 -- the counts of the new edges from the numbers of a cell
-pub spokes_told : {c : Cell} {s : Spiral} → SpiralNumbers c s → (m : ℕ) → spoke_by s.larger s.smaller m ≡ spoke (count_of c) m
+pub spokes_told : {c : Cell} {x y : ℕ} {own labels : List ℕ} → SpiralNumbers c x y own labels → (m : ℕ) → spoke_by x y m ≡ spoke (count_of c) m
 unfolding spoke_by spoke
 spokes_told N m = rw (N.larger_is, N.smaller_is) refl
 

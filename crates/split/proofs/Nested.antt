@@ -16,13 +16,12 @@ use Rattle.cell.specs.Level.{is_level_cell}
 use Rattle.booking.specs.Figures.{next_larger, next_smaller, splits, inner_crossings}
 use Rattle.booking.specs.Booking.{larger, smaller, is_spiral}
 use Rattle.booking.proofs.Figures.{figure_stop, figure_step}
-use Rattle.split.specs.declared.Spiral.{Spiral}
 use Rattle.split.specs.Limits.{word_step}
 use Rattle.split.specs.Labels.{labelled, label, spoke}
 use Rattle.split.specs.work.Five.{rest_count, arm_count}
 use Rattle.split.specs.SubCell.{rest_start, arm_start, sub, sub_at}
 use Rattle.split.specs.Parts.{splits_within}
-use Rattle.split.specs.work.Working.{LevelSix, SpiralNumbers, Working, SplitsLeft}
+use Rattle.split.specs.work.Working.{LevelSix, Working, SplitsLeft}
 use Rattle.split.proofs.Labels.{spiral_is, labelled_lt, at-label}
 use Rattle.split.proofs.Rest.{rest_sum}
 use Rattle.split.proofs.SubNumbers.{sub_cells}
@@ -115,9 +114,10 @@ module _ {c : Cell} {cell n b f left : ℕ} (L : SplitsLeft c cell n b f left) w
         ≡ 2 * (larger (count_of c) + smaller (count_of c)) + inner_crossings (next_larger (larger (count_of c)) (smaller (count_of c))) (next_smaller (larger (count_of c)) (smaller (count_of c)))
     inner_more = let (some, apart) = spiral_is (count_of c) S in figure_step (λ n. 0) (λ x y. 2 * (x + y)) (larger (count_of c)) (smaller (count_of c)) some apart
 
-    pub left_working : {s : Spiral} → SpiralNumbers c s → Working c s cell n b f
-    left_working N = record {
-      is = record { sound = L.sound; numbers = N; spiral = S };
+    pub left_working : Working c cell n b f
+    left_working = record {
+      sound = L.sound;
+      spiral = S;
       below = L.below;
       cell_lt = L.cell_lt;
       n_few = omega (arith, L.n_few);

@@ -18,7 +18,6 @@ use Rattle.cell.specs.Words.{all_words}
 use Rattle.cell.specs.Triangles.{triangles_with}
 use Rattle.cell.proofs.Using.{limited_same}
 use Rattle.booking.specs.Booking.{larger, smaller}
-use Rattle.split.specs.declared.Spiral.{Spiral}
 use Rattle.split.specs.Limits.{word_step}
 use Rattle.split.specs.SubCell.{sub}
 use Rattle.split.specs.Parts.{splits_within}
@@ -43,12 +42,12 @@ pub sound_placed : {c : Cell} → LevelSix c → StartsNear c
 sound_placed S = record { near = S.near; starts_six = S.starts_six }
 
 -- a sub-cell of a split is sound, and can be written
-module _ {c : Cell} {s : Spiral} {cell n b f : ℕ} (W : Working c s cell n b f) where
+module _ {c : Cell} {cell n b f : ℕ} (W : Working c cell n b f) where
   pub working_sub : (word m : ℕ) → m < 4 → LevelSix (sub c b f word m)
   working_sub word m lm =
-      let (some, apart) = spiral_is (count_of c) W.is.spiral in
-      let N = sub_cells c W.is.sound.level some apart b f word in
-      sub_sound c W.is.sound.level W.is.spiral b f W.below W.b_few word m lm
+      let (some, apart) = spiral_is (count_of c) W.spiral in
+      let N = sub_cells c W.sound.level some apart b f word in
+      sub_sound c W.sound.level W.spiral b f W.below W.b_few word m lm
       (below_four (λ m. is_level_cell (count_of (sub c b f word m)) ≡ true) N.omits-i.level N.omits-j.level N.omits_k.level N.omits-l.level m lm)
 
   sub_put : (k m : ℕ) {v : Cell} {word : ℕ} → m < 4 → v ≡ sub c b f word m → word ≡ cell + word_step * k → LevelSix v
@@ -113,12 +112,8 @@ module _ {c : Cell} {s : Spiral} {cell n b f : ℕ} (W : Working c s cell n b f)
         end_stored T = stored_then (stored_as S (of_sub n 1 e g) refl) (stored_as T (of_sub (n + 1) 0 d k) refl)
 
 -- the same split with another number
-pub working_at : {c : Cell} {s : Spiral} {cell n b f : ℕ} → Working c s cell n b f → (m : ℕ) → m + 4 ≤ 65536 → Working c s cell m b f
-working_at W m h = record { is = W.is; below = W.below; cell_lt = W.cell_lt; n_few = h; b_few = W.b_few; f_few = W.f_few }
-
--- and of the cell that its numbers have
-pub working_own : {c : Cell} {s : Spiral} {cell n b f : ℕ} → s.cell ≡ c → Working c s cell n b f → Working s.cell s cell n b f
-working_own {c} {s} {cell} {n} {b} {f} e W = subst (λ v. Working v s cell n b f) (sym e) W
+pub working_at : {c : Cell} {cell n b f : ℕ} → Working c cell n b f → (m : ℕ) → m + 4 ≤ 65536 → Working c cell m b f
+working_at W m h = record { sound = W.sound; spiral = W.spiral; below = W.below; cell_lt = W.cell_lt; n_few = h; b_few = W.b_few; f_few = W.f_few }
 
 -- where there is no split
 module _ {c : Cell} {cell n b f left : ℕ} (L : SplitsLeft c cell n b f left) where

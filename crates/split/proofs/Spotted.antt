@@ -38,7 +38,6 @@ use Rattle.booking.specs.claims.Figures.{end_number}
 use Rattle.booking.specs.Booking.{larger, smaller, is_split}
 use Rattle.booking.specs.work.Sums.{AreFigures}
 use Rattle.booking.proofs.Figures.{figure_step, figure_laws}
-use Rattle.split.specs.declared.Spiral.{Spiral}
 use Rattle.split.specs.Limits.{first_inner_crossing, first_inner_face}
 use Rattle.split.specs.Standing.{corners_of, all_standing, inner_places, drawn_middles}
 use Rattle.split.specs.work.Working.{LevelSix, SpiralNumbers, Drawable}
@@ -105,15 +104,15 @@ module _ {c : Cell} {splits : ℕ} (D : Drawable c splits) where
   pub drawn_spun : 0 < splits → Spun c c.index 0 first_inner_crossing first_inner_face splits
   drawn_spun h = record { working = drawn_left D h; divisor = split_divisor (count_of c) (drawn_split D h) }
 
-  module _ (h : 0 < splits) {s : Spiral} (N : SpiralNumbers c s) where
+  module _ (h : 0 < splits) {d1 d2 : ℕ} {own labels : List ℕ} (N : SpiralNumbers c d1 d2 own labels) where
     S : IsSplit (count_of c)
     S = split_is (count_of c) (drawn_split D h)
 
-    pub numbers_most : (s.larger ≤ most_count) × (s.smaller ≤ most_count)
+    pub numbers_most : (d1 ≤ most_count) × (d2 ≤ most_count)
     numbers_most = let m = most-sum c S.level S.some S.more in (omega (arith, N.larger_is, m), omega (arith, N.smaller_is, m))
 
     -- the figures of its two numbers
-    module _ {g : SplitSums} (F : AreFigures s.larger s.smaller g) where
+    module _ {g : SplitSums} (F : AreFigures d1 d2 g) where
       abbrev x : ℕ
       x = larger (count_of c)
 

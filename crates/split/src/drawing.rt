@@ -59,14 +59,14 @@ fn next_split(tables: Tables, c: usize, n: usize, splits: u64) -> Option<SplitCe
     split_from(tables, c, n)
 }
 
-// Writes the words of what is drawn of cell c, in which so many splits are made: they have room from index `at` on. Answers the next index.
-fn put_at(tables: Tables, c: usize, splits: u32, area: &mut [u32], at: usize) -> usize
-    requires splits_value { splits ≡ splits_in_cell tables c }
-    requires c_in_bounds { at + length (all_words (drawn_triangles (cell_in tables c))) ≤ length area.old }
-    ensures { Stored area.old at (all_words (drawn_triangles (cell_in tables.entry c))) area.new result }
+// Writes the words of what is drawn of a cell that is split: they have room from index `at` on. Answers the next index.
+fn put_at(tables: Tables, s: SplitCell, area: &mut [u32], at: usize) -> usize
+    requires splits_value { s.splits ≡ splits_in_cell tables s.index }
+    requires s_in_bounds { at + length (all_words (drawn_triangles (cell_in tables s.index))) ≤ length area.old }
+    ensures { Stored area.old at (all_words (drawn_triangles (cell_in tables.entry s.index))) area.new result }
 {
-    let v = cell::cell_at(tables, c);
-    put_cell(v, splits, area, at)
+    let c = cell::cell_at(tables, s.index);
+    put_cell(c, s.splits, area, at)
 }
 
 // Writes the words of the triangles of the loops of the cells from c up to `end`: they have room from index `at` on. Answers the next index.
@@ -88,7 +88,7 @@ fn put_cells(tables: Tables, splits: u64, area: &mut [u32]) -> usize
     let mut c: usize = 0;
     while let Some(s) = next_split(tables, c, n, splits) {
         i = put_stretch(tables, c, s.index, area, i);
-        i = put_at(tables, s.index, s.splits, area, i);
+        i = put_at(tables, s, area, i);
         c = s.index + 1;
     }
     put_stretch(tables, c, n, area, i)

@@ -9,7 +9,7 @@ ghost use Rattle.cell.specs.Words.{all_words};
 ghost use Rattle.cell.specs.Triangles.{triangles_with};
 ghost use Rattle.booking.specs.Booking.{larger, smaller};
 ghost use Rattle.split.specs.Parts.{drawn_triangles};
-ghost use Rattle.split.specs.work.Working.{StartsNear, Working, SplitsLeft, Drawable, first_numbering, parts_words, start_words, end_words};
+ghost use Rattle.split.specs.work.Working.{StartsNear, Spiraling, Working, SplitsLeft, Drawable, first_numbering, parts_words, start_words, end_words};
 
 use cell::Cell;
 use slots::{MOST_CELLS, MOST_CROSSINGS, MOST_SLOTS};
@@ -24,6 +24,7 @@ pub use drawing::{draw, sums_of};
 pub use spots::{extra_of, write_drawn_middles, write_inner};
 
 // A cell that is split: d1 and d2; at each position the own corner triangles and the label.
+// Stays: labels are numbers, since the new edges and their crossings are numbered in their order.
 #[derive(Clone, Copy)]
 struct Spiral {
     cell: Cell,
@@ -31,6 +32,7 @@ struct Spiral {
     smaller: u32,
     own: [u32; 4],
     label: [u32; 4],
+    ghost spiraling: { Spiraling cell larger smaller own label },
 }
 
 // By what a cell or sub-cell goes that is split: the number of its cell, its own number there, and where the numbers of the inner crossings of the split and
@@ -89,6 +91,7 @@ pub const FIRST_FACE: u32 = MOST_SLOTS as u32;
 const CORNER: usize = 3;
 
 // Writes the words of the triangles of the loops of length `only`, or of all where that is 0, which have room from index `at` on, and answers the next index.
+// Stays: 0 for all lengths, as `triangles_with` reads it, which the theorems on parts cite.
 fn put(c: Cell, only: usize, area: &mut [u32], at: usize) -> usize
     requires starts_near { StartsNear c }
     requires only_in_bounds { at + length (all_words (triangles_with c only)) ≤ length area.old }
@@ -101,7 +104,7 @@ fn put(c: Cell, only: usize, area: &mut [u32], at: usize) -> usize
 
 // The parts of a split before the nested one: the own corner triangles, and the sub-cell that omits l.
 fn put_start(s: Spiral, by: Numbering, area: &mut [u32], at: usize) -> usize
-    requires working { Working s.cell s by.cell by.number by.crossing by.face }
+    requires working { Working s.cell by.cell by.number by.crossing by.face }
     requires s_in_bounds { at + length (start_words s.cell by.cell by.number by.crossing by.face) ≤ length area.old }
     ensures { Stored area.old at (start_words s.cell by.cell by.number by.crossing by.face) area.new result }
 {
@@ -111,7 +114,7 @@ fn put_start(s: Spiral, by: Numbering, area: &mut [u32], at: usize) -> usize
 
 // Those after it: the sub-cells that omit j and i, of which the first has the number of `by`.
 fn put_end(s: Spiral, by: Numbering, area: &mut [u32], at: usize) -> usize
-    requires working { Working s.cell s by.cell by.number by.crossing by.face }
+    requires working { Working s.cell by.cell by.number by.crossing by.face }
     requires s_in_bounds { at + length (end_words s.cell by.cell by.number by.crossing by.face) ≤ length area.old }
     ensures { Stored area.old at (end_words s.cell by.cell by.number by.crossing by.face) area.new result }
 {

@@ -1,7 +1,8 @@
 // The numbers by which a cell is split: d1 and d2, the own corner triangles at each node, and the labels of the nodes.
 ghost use Rattle.std.specs.Prelude.{◌≡◌, true, ◌+◌, ◌-◌, ◌/◌, ◌≤◌};
 ghost use Rattle.cell.specs.Level.{by_edge, is_level_cell};
-ghost use Rattle.booking.specs.Booking.{smallest, median};
+ghost use Rattle.cell.specs.Of.{count_of};
+ghost use Rattle.booking.specs.Booking.{is_spiral, smallest, median};
 ghost use Rattle.split.specs.work.Working.{AreOwn, label_by, LevelSix, SpiralNumbers};
 
 use super::Spiral;
@@ -67,9 +68,10 @@ fn label_of(d1: u32, d2: u32, r: u32) -> u32
 impl Spiral {
     // The numbers of the cell.
     pub(crate) fn of(c: Cell) -> Spiral
-        requires { LevelSix c }
+        requires sound { LevelSix c }
+        requires spiral { is_spiral (count_of c) ≡ true }
         ensures cell_is { result.cell ≡ c }
-        ensures numbers { SpiralNumbers c result }
+        ensures numbers { SpiralNumbers c result.larger result.smaller result.own result.label }
     {
         let six = cell::taken_of(c);
         let own = own_of(six);

@@ -7,7 +7,7 @@ ghost use Rattle.cell.specs.Of.{count_of};
 ghost use Rattle.cell.specs.claims.Nests.{nest_middle};
 ghost use Rattle.split.specs.Labels.{labelled};
 ghost use Rattle.split.specs.Standing.{corner_in, new_place, sub_places, split_places, fans_in};
-ghost use Rattle.split.specs.work.Working.{Spiraling, SplitsLeft};
+ghost use Rattle.split.specs.work.Working.{SplitsLeft};
 ghost use Rattle.split.specs.work.Spots.{Nesting, positioned, Spun, standing_inner, standing_fans};
 
 use super::{Numbering, Spiral};
@@ -18,7 +18,6 @@ use slots::position;
 impl Spiral {
     // Where the node with the label m is, of those at `at` by position.
     fn labelled_at(self, at: [Place; 4], m: u32) -> Place
-        requires spiraling { Spiraling self.cell self }
         requires m_bound { m < 4 }
         ensures { result ≡ corner_in at (labelled (count_of self.cell) m) }
     {
@@ -27,7 +26,6 @@ impl Spiral {
 
     // Where the new node is: the mean of the four places, added up in the order of labels.
     fn new_place(self, at: [Place; 4]) -> Place
-        requires { Spiraling self.cell self }
         ensures { result ≡ new_place (count_of self.cell) at }
     {
         let i = self.labelled_at(at, 0);
@@ -39,7 +37,6 @@ impl Spiral {
 
     // Where the nodes of the sub-cell are that omits the node with the label m.
     fn sub_places(self, at: [Place; 4], m: u32) -> [Place; 4]
-        requires spiraling { Spiraling self.cell self }
         requires m_bound { m < 4 }
         ensures { result ≡ sub_places (count_of self.cell) at m }
     {
@@ -55,7 +52,6 @@ impl Spiral {
 
     // Writes the places of the inner crossings of a split, as points from `i` on, and answers the next point.
     fn put_split(self, at: [Place; 4], area: &mut [f64], i: usize) -> usize
-        requires spiraling { Spiraling self.cell self }
         requires at_in_bounds { coordinates * (i + length (split_places (count_of self.cell) at)) ≤ length area.old }
         ensures { Stored area.old (coordinates * i) (all_numbers (split_places (count_of self.cell) at)) area.new (coordinates * result) }
     {

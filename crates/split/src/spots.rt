@@ -11,7 +11,7 @@ ghost use Rattle.split.specs.work.Tables.{ExtraOf, inner_in_cell, middles_in_cel
 
 use super::drawing::split_from;
 use super::placing::{centres_in, inner_in};
-use super::{Extra, Numbering, PointSums, Spiral};
+use super::{Extra, Numbering, PointSums, Spiral, SplitCell};
 use cell::{Cell, Tables};
 use place::Place;
 
@@ -114,20 +114,13 @@ fn put_middles(c: Cell, splits: u32, nodes: &[f64], area: &mut [f64], i: usize) 
     i
 }
 
-// The same for cell c of the tables.
-fn middles_at(
-    tables: Tables,
-    c: usize,
-    splits: u32,
-    nodes: &[f64],
-    area: &mut [f64],
-    i: usize,
-) -> usize
-    requires { splits ≡ splits_in_cell tables c }
-    ensures { (area.new, result) ≡ points_stored area.old i (middles_in_cell tables.entry nodes.now c area.old i) }
+// The same for a cell of the tables that is split.
+fn middles_at(tables: Tables, s: SplitCell, nodes: &[f64], area: &mut [f64], i: usize) -> usize
+    requires { s.splits ≡ splits_in_cell tables s.index }
+    ensures { (area.new, result) ≡ points_stored area.old i (middles_in_cell tables.entry nodes.now s.index area.old i) }
 {
-    let v = cell::cell_at(tables, c);
-    put_middles(v, splits, nodes, area, i)
+    let c = cell::cell_at(tables, s.index);
+    put_middles(c, s.splits, nodes, area, i)
 }
 
 // Writes the places of the inner crossings of all cells, cell by cell, from point `at` of the area on, and answers the next point. Of a cell whose inner
@@ -156,7 +149,7 @@ pub fn write_drawn_middles(tables: Tables, nodes: &[f64], area: &mut [f64], at: 
     let mut c: usize = 0;
     while let Some(s) = split_from(tables, c, n) {
         i = direct::write_middles(tables, c, s.index, nodes, area, i);
-        i = middles_at(tables, s.index, s.splits, nodes, area, i);
+        i = middles_at(tables, s, nodes, area, i);
         c = s.index + 1;
     }
     direct::write_middles(tables, c, n, nodes, area, i)

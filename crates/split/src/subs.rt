@@ -10,7 +10,7 @@ ghost use Rattle.split.specs.SubCell.{arm_start, rest_start, inner_name, sub};
 ghost use Rattle.cell.specs.claims.Table.{short_limit};
 ghost use Rattle.cell.specs.work.Limits.{start_limit};
 ghost use Rattle.split.specs.Limits.{word_step};
-ghost use Rattle.split.specs.work.Working.{Spiraling, nested_numbering, spoke_by};
+ghost use Rattle.split.specs.work.Working.{nested_numbering, spoke_by};
 
 use super::{Numbering, Spiral};
 use cell::Cell;
@@ -43,7 +43,7 @@ fn slot_edge(p: usize, j: u32) -> usize
 impl Spiral {
     // The count of the new edge with the label l, and the inner crossings before it.
     pub(crate) fn spoke_count(self, l: u32) -> u32
-        requires { (l < 4) × (self.larger + self.smaller ≤ 65535) }
+        requires { l < 4 }
         ensures { result ≡ spoke_by self.larger self.smaller l }
     {
         match l {
@@ -55,7 +55,7 @@ impl Spiral {
     }
 
     fn spokes_before(self, l: u32) -> u32
-        requires { (l < 4) × (self.larger + self.smaller ≤ 65535) }
+        requires { l < 4 }
         ensures { (result ≡ pre (spoke_by self.larger self.smaller) l) × (result ≤ 262140) }
     {
         match l {
@@ -68,7 +68,6 @@ impl Spiral {
 
     // The count of the new edge to position p.
     fn arm_count(self, p: usize) -> u16
-        requires spiraling { Spiraling self.cell self }
         requires p_bound { p < 4 }
         ensures { result ≡ arm_count self.cell p }
     {
@@ -77,7 +76,6 @@ impl Spiral {
 
     // The number of its first crossing, where the inner crossings start at b.
     fn arm_start(self, b: u32, p: usize) -> u32
-        requires spiraling { Spiraling self.cell self }
         requires p_bound { (p < 4) × (b < start_limit) }
         ensures { result ≡ arm_start self.cell b p }
     {
@@ -86,7 +84,6 @@ impl Spiral {
 
     // What remains of edge e: how many crossings, and the number of the first.
     fn rest_count(self, six: [u16; 6], e: usize) -> u16
-        requires spiraling { Spiraling self.cell self }
         requires e_bound { (e < 6) × (six ≡ values (count_of self.cell) 6) }
         ensures { result ≡ rest_count self.cell e }
     {
@@ -96,7 +93,6 @@ impl Spiral {
     }
 
     fn rest_start(self, e: usize) -> u32
-        requires spiraling { Spiraling self.cell self }
         requires e_bound { e < 6 }
         ensures { result ≡ rest_start self.cell e }
     {
@@ -106,7 +102,6 @@ impl Spiral {
 
     // The name of the inner face with edge e, where these names start at f.
     fn inner_name(self, f: u32, e: usize) -> u16
-        requires spiraling { Spiraling self.cell self }
         requires e_bound { (e < 6) × (f + 6 ≤ short_limit) }
         ensures { result ≡ inner_name self.cell f e }
     {
@@ -117,7 +112,6 @@ impl Spiral {
 
     // The position of the node with the label m.
     pub(crate) fn place_of(self, m: u32) -> usize
-        requires spiraling { Spiraling self.cell self }
         requires m_bound { m < 4 }
         ensures { (result ≡ labelled (count_of self.cell) m) × (result < 4) }
     {
@@ -134,7 +128,6 @@ impl Spiral {
 
     // The counts, first numbers and names of the sub-cell that omits position p.
     fn counts_of(self, p: usize) -> [u16; 6]
-        requires spiraling { Spiraling self.cell self }
         requires p_bound { p < 4 }
         ensures { result ≡ arm_count self.cell (position p 0) ∷ arm_count self.cell (position p 1) ∷ arm_count self.cell (position p 2) ∷ rest_count self.cell (slot_edge p 0) ∷ rest_count self.cell (slot_edge p 1) ∷ rest_count self.cell (slot_edge p 2) ∷ [] }
     {
@@ -149,7 +142,6 @@ impl Spiral {
     }
 
     fn starts_of(self, b: u32, p: usize) -> [u32; 6]
-        requires spiraling { Spiraling self.cell self }
         requires p_bound { (p < 4) × (b < start_limit) }
         ensures { result ≡ arm_start self.cell b (position p 0) ∷ arm_start self.cell b (position p 1) ∷ arm_start self.cell b (position p 2) ∷ rest_start self.cell (slot_edge p 0) ∷ rest_start self.cell (slot_edge p 1) ∷ rest_start self.cell (slot_edge p 2) ∷ [] }
     {
@@ -163,7 +155,6 @@ impl Spiral {
     }
 
     fn names_of(self, f: u32, p: usize) -> [u16; 4]
-        requires spiraling { Spiraling self.cell self }
         requires p_bound { (p < 4) × (f + 6 ≤ short_limit) }
         ensures { result ≡ get_or self.cell.names p 0 ∷ inner_name self.cell f (slot_edge p 2) ∷ inner_name self.cell f (slot_edge p 1) ∷ inner_name self.cell f (slot_edge p 0) ∷ [] }
     {
@@ -176,7 +167,6 @@ impl Spiral {
 
     // The sub-cell that omits the node with the label m, with its word 0.
     fn sub_of(self, b: u32, f: u32, word: u32, m: u32) -> Cell
-        requires spiraling { Spiraling self.cell self }
         requires m_bound { (m < 4) × (b < start_limit) × (f + 6 ≤ short_limit) }
         ensures { result ≡ sub self.cell b f word m }
     {
@@ -195,7 +185,6 @@ impl Spiral {
 
     // The same where the split goes by `by`: the sub-cell's own number is k above that.
     pub(crate) fn sub_cell(self, by: Numbering, k: u32, m: u32) -> Cell
-        requires spiraling { Spiraling self.cell self }
         requires m_bound { (m < 4) × (by.cell < word_step) × (by.number + k ≤ short_limit) × (by.crossing < start_limit) × (by.face + 6 ≤ short_limit) }
         ensures { result ≡ sub self.cell by.crossing by.face (by.cell + word_step * (by.number + k)) m }
     {
@@ -205,7 +194,6 @@ impl Spiral {
 
     // By what the sub-cell that omits k goes where this split goes by `by`, if it is split in turn.
     pub(crate) fn nested(self, by: Numbering) -> Numbering
-        requires sums_fit { self.larger + self.smaller ≤ 65535 }
         requires by_bound { (by.number + 2 ≤ short_limit) × (by.crossing + 2 * (self.larger + self.smaller) < start_limit) × (by.face + 6 ≤ short_limit) }
         ensures { result ≡ nested_numbering by (2 * (self.larger + self.smaller)) }
     {

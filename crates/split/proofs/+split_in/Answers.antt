@@ -4,27 +4,24 @@ use native.Mathlib.Omega.{arith}
 use Rattle.counting.proofs.Stored.{stored_as}
 use Rattle.cell.specs.Of.{count_of}
 use Rattle.booking.specs.Booking.{larger, smaller}
-use Rattle.split.proofs.Nested.{left_working}
-use Rattle.split.proofs.Coded.{sum_few}
-use Rattle.split.proofs.Putting.{sound_placed, none_left, none_room, inner_left, inner_less, room_start, room_nested, room_end, all_stored, working_at, working_own}
+use Rattle.split.proofs.Nested.{left_some, left_working}
+use Rattle.split.proofs.Putting.{sound_placed, none_left, none_room, inner_left, inner_less, room_start, room_nested, room_end, all_stored, working_at}
 use Rattle.split.proofs.+split_in.Goals as goal
 
 pub put-requires : goal.put-requires
 put-requires t c = record { starts_near = sound_placed c.requires.splits_left.sound; only_in_bounds = none_room c.requires.splits_left c.args.at c.if-left-eq0.true c.requires.c_in_bounds }
 
+pub of-s-requires : goal.of-s-requires
+of-s-requires t c = let L = c.requires.splits_left in record { sound = L.sound; spiral = left_some L (omega (arith, c.if-left-eq0.false)) }
+
 pub returns-then-left-eq0 : goal.returns-then-left-eq0
 returns-then-left-eq0 t c = stored_as c.put.ensures (sym (none_left c.requires.splits_left c.if-left-eq0.true)) refl
 
-pub sub_cell-inner-requires : goal.sub_cell-inner-requires
-sub_cell-inner-requires t c = let h : 0 < c.args.left = omega (arith, c.if-left-eq0.false) in
-    let W = working_own c.of-s.ensures.cell_is (left_working c.requires.splits_left h c.of-s.ensures.numbers) in
-    record { spiraling = W.is; m_bound = (omega arith, W.cell_lt, omega (arith, W.n_few), omega (arith, W.b_few), W.f_few) }
-
 pub nested-nested-requires : goal.nested-nested-requires
 nested-nested-requires t c = let h : 0 < c.args.left = omega (arith, c.if-left-eq0.false) in
-    let W = left_working c.requires.splits_left h c.of-s.ensures.numbers in
-    let N = W.is.numbers in
-    record { sums_fit = omega (arith, sum_few W.is); by_bound = (omega (arith, W.n_few), omega (arith, W.b_few, N.larger_is, N.smaller_is), W.f_few) }
+    let W = left_working c.requires.splits_left h in
+    let N = c.of-s.ensures.numbers in
+    record { by_bound = (omega (arith, W.n_few), omega (arith, W.b_few, N.larger_is, N.smaller_is), W.f_few) }
 
 pub put_start-i-requires : goal.put_start-i-requires
 put_start-i-requires t c = let h : 0 < c.args.left = omega (arith, c.if-left-eq0.false) in
@@ -32,7 +29,7 @@ put_start-i-requires t c = let h : 0 < c.args.left = omega (arith, c.if-left-eq0
     let N = E.numbers in
     let e = rw E.cell_is at c.sub_cell-inner.ensures in
     let k = ap₂ (λ x y. c.args.by.crossing + 2 * (x + y)) N.larger_is N.smaller_is in
-    record { working = working_own E.cell_is (left_working c.requires.splits_left h N); s_in_bounds = rw E.cell_is (room_start c.requires.splits_left h e refl k c.args.area.now c.args.at c.requires.c_in_bounds) }
+    record { working = rw E.cell_is (left_working c.requires.splits_left h); s_in_bounds = rw E.cell_is (room_start c.requires.splits_left h e refl k c.args.area.now c.args.at c.requires.c_in_bounds) }
 
 pub split_in-k-requires : goal.split_in-k-requires
 split_in-k-requires t c = let L = c.requires.splits_left in
@@ -56,7 +53,7 @@ put_end-requires t c = let L = c.requires.splits_left in
     let k = ap₂ (λ x y. c.args.by.crossing + 2 * (x + y)) N.larger_is N.smaller_is in
     let S = rw E.cell_is at c.put_start-i.ensures in
     let T = rw c.nested-nested.ensures at c.split_in-k.ensures in
-    record { working = working_own E.cell_is (working_at (left_working L h N) _ (omega (arith, L.n_few))); s_in_bounds = rw E.cell_is (room_end L h e refl k c.args.area.now c.args.at c.requires.c_in_bounds S T) }
+    record { working = rw E.cell_is (working_at (left_working L h) _ (omega (arith, L.n_few))); s_in_bounds = rw E.cell_is (room_end L h e refl k c.args.area.now c.args.at c.requires.c_in_bounds S T) }
 
 pub returns : goal.returns
 returns t c = let L = c.requires.splits_left in

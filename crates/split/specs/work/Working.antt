@@ -13,7 +13,6 @@ use Rattle.cell.specs.Triangles.{triangles_with}
 use Rattle.booking.specs.Figures.{splits, inner_crossings}
 use Rattle.booking.specs.Booking.{least_corner, left_between, larger, smaller, is_spiral}
 use Rattle.split.specs.declared.Numbering.{Numbering}
-use Rattle.split.specs.declared.Spiral.{Spiral}
 use Rattle.split.specs.Limits.{first_inner_crossing, first_inner_face, word_step}
 use Rattle.split.specs.SubCell.{sub}
 use Rattle.split.specs.Parts.{parts, part_triangles, splits_of}
@@ -42,18 +41,18 @@ label_by x y r = pick (eqb r x) 1 (pick (eqb r y) 2 3)
 unfoldable pub spoke_by : (x y n : ℕ) → ℕ
 spoke_by x y n = get_or ((2 * y) ∷ x ∷ y ∷ (x - y) ∷ []) n 0
 
--- s are the numbers of the cell
-pub record SpiralNumbers (c : Cell) (s : Spiral) : Type 0 where
-  pub larger_is : s.larger ≡ larger (count_of c)
-  pub smaller_is : s.smaller ≡ smaller (count_of c)
-  pub own_are : AreOwn (count_of c) s.own
-  pub labels_are : (p : ℕ) → 0 < p → p < 4 → get_or s.label p 0 ≡ label_by (larger (count_of c)) (smaller (count_of c)) (left_between (count_of c) 0 p)
-  pub label_first : get_or s.label 0 0 ≡ 0
+-- x and y are d1 and d2 of the cell, and listed are the own corner triangles and the labels at its four positions
+pub record SpiralNumbers (c : Cell) (x y : ℕ) (own labels : List ℕ) : Type 0 where
+  pub larger_is : x ≡ larger (count_of c)
+  pub smaller_is : y ≡ smaller (count_of c)
+  pub own_are : AreOwn (count_of c) own
+  pub labels_are : (p : ℕ) → 0 < p → p < 4 → get_or labels p 0 ≡ label_by (larger (count_of c)) (smaller (count_of c)) (left_between (count_of c) 0 p)
+  pub label_first : get_or labels 0 0 ≡ 0
 
 -- and it is split
-pub record Spiraling (c : Cell) (s : Spiral) : Type 0 where
+pub record Spiraling (c : Cell) (x y : ℕ) (own labels : List ℕ) : Type 0 where
   pub sound : LevelSix c
-  pub numbers : SpiralNumbers c s
+  pub numbers : SpiralNumbers c x y own labels
   pub spiral : is_spiral (count_of c) ≡ true
 
 -- by what a cell of a grid goes, and the sub-cell nested in a split that goes by g and has so many inner crossings
@@ -63,9 +62,10 @@ first_numbering c = record { cell = c.index; number = 0; crossing = first_inner_
 abbrev pub nested_numbering : Numbering → ℕ → Numbering
 nested_numbering g inner = record { cell = g.cell; number = g.number + 2; crossing = g.crossing + inner; face = g.face + 6 }
 
--- a split under way: the cell or sub-cell c with the number n of the cell `cell`, its numbers s, inner crossings from b on and inner faces from f on
-pub record Working (c : Cell) (s : Spiral) (cell n b f : ℕ) : Type 0 where
-  pub is : Spiraling c s
+-- a split under way: the cell or sub-cell c with the number n of the cell `cell`, inner crossings from b on and inner faces from f on
+pub record Working (c : Cell) (cell n b f : ℕ) : Type 0 where
+  pub sound : LevelSix c
+  pub spiral : is_spiral (count_of c) ≡ true
   pub below : (e : ℕ) → e < 6 → start_of c e + count_of c e < start_limit
   pub cell_lt : cell < word_step
   pub n_few : n + 4 ≤ short_limit

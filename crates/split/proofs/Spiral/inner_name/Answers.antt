@@ -11,12 +11,12 @@ joining_of-requires c = let a = c.args in
     let p = c.requires in
     let x = ap (λ k. get_or a.self.label k 0) c.low_end.ensures.0 in
     let y = ap (λ k. get_or a.self.label k 0) c.high_end.ensures.0 in
-    let l = ends_lt p.spiraling a.e p.e_bound.0 in
-    (omega (arith, x, l), omega (arith, y, l), λ e. labels_apart p.spiraling a.e p.e_bound.0 (sym x ∙ e ∙ y))
+    let l = ends_lt a.self.spiraling a.e p.e_bound.0 in
+    (omega (arith, x, l), omega (arith, y, l), λ e. labels_apart a.self.spiraling a.e p.e_bound.0 (sym x ∙ e ∙ y))
 
 pub returns : goal.returns
 returns c = let a = c.args in
     let p = c.requires in
     let x = ap (λ k. get_or a.self.label k 0) c.low_end.ensures.0 in
     let y = ap (λ k. get_or a.self.label k 0) c.high_end.ensures.0 in
-    ap (λ n. a.f + n) (c.joining_of.ensures.0 ∙ ap₂ joining x y) ∙ name_told p.spiraling a.f a.e p.e_bound.0
+    ap (λ n. a.f + n) (c.joining_of.ensures.0 ∙ ap₂ joining x y) ∙ name_told a.self.spiraling a.f a.e p.e_bound.0

@@ -1,5 +1,6 @@
 use native.Mathlib.Omega.{arith}
 use mathlib.Core.Path.{◌∙◌}
+use Rattle.split.proofs.Coded.{sum_few}
 use Rattle.split.proofs.Ends.{spoke_at, spokes_are}
 use Rattle.split.proofs.Spiral.spoke_count.Goals as goal
 
@@ -14,3 +15,6 @@ returns-in-2 c = (spokes_are _ _).2 ∙ spoke_at _ _ _ 2 c.in-2.is
 
 pub returns-in_default : goal.returns-in_default
 returns-in_default c = c.saturating_sub.ensures ∙ (spokes_are _ _).3 ∙ spoke_at _ _ _ 3 (omega arith)
+
+pub overflow_mul-result : goal.overflow_mul-result
+overflow_mul-result c = omega (arith, sum_few c.args.self.spiraling)

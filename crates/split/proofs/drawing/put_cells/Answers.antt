@@ -19,7 +19,7 @@ put_at-i-requires c = let A = c.args in
     let R = c.in-Some.ensures in
     let h = R.1.after R.0 in
     let S = stretch_written A.tables.cells.now A.tables.counts.now A.tables.names.now A.tables.sides.now A.tables.starts.now c.loop-s.invariant.1 P.starts_in_bounds R.1 (omega (arith, c.drawn-n.ensures)) c.put_stretch-i.ensures in
-    record { splits_value = h.1; c_in_bounds = next_room A.tables.cells.now A.tables.counts.now A.tables.names.now A.tables.sides.now A.tables.starts.now S P.starts_in_bounds (omega (arith, h.0, c.drawn-n.ensures)) }
+    record { splits_value = h.1; s_in_bounds = next_room A.tables.cells.now A.tables.counts.now A.tables.names.now A.tables.sides.now A.tables.starts.now S P.starts_in_bounds (omega (arith, h.0, c.drawn-n.ensures)) }
 
 pub loop-s-preserved : goal.loop-s-preserved
 loop-s-preserved c = let A = c.args in

@@ -3,11 +3,13 @@ use mathlib.Core.Path.{refl, ap₂, subst}
 use native.Mathlib.Omega.{arith}
 use Rattle.cell.specs.Of.{count_of}
 use Rattle.booking.specs.Booking.{larger, smaller}
-use Rattle.split.proofs.Nested.{left_working}
-use Rattle.split.proofs.Coded.{sum_few}
-use Rattle.split.proofs.Putting.{inner_left, inner_less, working_own}
+use Rattle.split.proofs.Nested.{left_some, left_working}
+use Rattle.split.proofs.Putting.{inner_left, inner_less}
 use Rattle.split.proofs.Arms.{none_inner, split_room, inner_room, inner_all}
 use Rattle.split.proofs.placing.+inner_in.Goals as goal
+
+pub of-s-requires : goal.of-s-requires
+of-s-requires t c = let L = c.requires.splits_left in record { sound = L.sound; spiral = left_some L (omega (arith, c.if-left-eq0.false)) }
 
 pub returns-then-left-eq0 : goal.returns-then-left-eq0
 returns-then-left-eq0 t c = let A = c.args in none_inner c.requires.splits_left A.at c.if-left-eq0.true A.area.now A.i
@@ -16,24 +18,14 @@ pub put_split-k-requires : goal.put_split-k-requires
 put_split-k-requires t c = let L = c.requires.splits_left in
     let A = c.args in
     let h : 0 < A.left = omega (arith, c.if-left-eq0.false) in
-    let K = left_working L h c.of-s.ensures.numbers in
-    record { spiraling = (working_own c.of-s.ensures.cell_is K).is; at_in_bounds = rw c.of-s.ensures.cell_is (split_room L A.at h A.i c.requires.c_in_bounds) }
-
-pub sub_cell-inner-requires : goal.sub_cell-inner-requires
-sub_cell-inner-requires t c = let h : 0 < c.args.left = omega (arith, c.if-left-eq0.false) in
-    let K = left_working c.requires.splits_left h c.of-s.ensures.numbers in
-    record { spiraling = (working_own c.of-s.ensures.cell_is K).is; m_bound = (omega arith, K.cell_lt, omega (arith, K.n_few), omega (arith, K.b_few), K.f_few) }
-
-pub sub_places-places-requires : goal.sub_places-places-requires
-sub_places-places-requires t c = let h : 0 < c.args.left = omega (arith, c.if-left-eq0.false) in
-    let K = left_working c.requires.splits_left h c.of-s.ensures.numbers in
-    record { spiraling = (working_own c.of-s.ensures.cell_is K).is; m_bound = omega arith }
+    let K = left_working L h in
+    record { at_in_bounds = rw c.of-s.ensures.cell_is (split_room L A.at h A.i c.requires.c_in_bounds) }
 
 pub nested-requires : goal.nested-requires
 nested-requires t c = let h : 0 < c.args.left = omega (arith, c.if-left-eq0.false) in
-    let K = left_working c.requires.splits_left h c.of-s.ensures.numbers in
-    let N = K.is.numbers in
-    record { sums_fit = omega (arith, sum_few K.is); by_bound = (omega (arith, K.n_few), omega (arith, K.b_few, N.larger_is, N.smaller_is), K.f_few) }
+    let K = left_working c.requires.splits_left h in
+    let N = c.of-s.ensures.numbers in
+    record { by_bound = (omega (arith, K.n_few), omega (arith, K.b_few, N.larger_is, N.smaller_is), K.f_few) }
 
 pub inner_in-requires : goal.inner_in-requires
 inner_in-requires t c = let L = c.requires.splits_left in
