@@ -37,17 +37,16 @@ use Rattle.cell.specs.Nodes.{joining}
 use Rattle.cell.specs.Triangles.{asked_triangles, triangles_with}
 use Rattle.cell.specs.Words.{word_count, all_words}
 use Rattle.cell.proofs.Lay.{lay, base_all}
-use Rattle.cell.proofs.Nodes.{acbd, adbc, bacd, arranged, joining_ends}
+use Rattle.cell.proofs.Nodes.{adbc, arranged, joining_ends}
 use Rattle.cell.proofs.Storing.{length_all}
 use Rattle.cell.proofs.Taken.{with_few}
 use Rattle.cell.proofs.Using.{limited_same}
 use Rattle.cell.proofs.Values.{six_taken}
 use Rattle.booking.specs.Booking.{least_corner, left_between, smaller}
 use Rattle.direct.specs.claims.Direct.{passed, outwards, inwards, acrosses, rounds}
-use Rattle.direct.specs.work.Rows.{Listed, Parting, PlainNumbers, Round}
+use Rattle.direct.specs.work.Rows.{Listed, Parting}
 use Rattle.direct.specs.work.Laid.{ring_on, parting_on, quads_on, laid_on, length_asked, Laying, Laid, AtStart}
 use Rattle.direct.proofs.Numbers.{count_is}
-use Rattle.direct.proofs.Rows.{across_words, rounds_words}
 use Rattle.direct.proofs.Edge.{one_none, laid_edge}
 use Rattle.direct.proofs.Families.{room_first, room_next, both_stored}
 
@@ -119,15 +118,6 @@ module _ (c : Cell) (k : ℕ) where
     unfolding parting_on
     parting_kept z = rw (sym is_three ∙ z) refl
 
--- the quads of either kind
-module _ {c : Cell} {six : List ℕ} (L : Listed c six) {n s t a m u v : ℕ} (P : Parting c n s t a m u v) (o : Bool) where
-  pub parting_words : length (all_words (pick o (acrosses c a m u v) (rounds c a m u v))) ≡ word_count * (2 * n)
-  parting_words = go o
-    where
-      go : (o : Bool) → length (all_words (pick o (acrosses c a m u v) (rounds c a m u v))) ≡ word_count * (2 * n)
-      go true = across_words L P
-      go false = rounds_words L P
-
 -- the quads on an edge
 module _ {c : Cell} {six own : List ℕ} {quads : Bool} (R : Laid c six own quads) {a b x d : ℕ} (A : Arranged a b x d) where
   abbrev w : ℕ → ℕ
@@ -151,9 +141,6 @@ module _ {c : Cell} {six own : List ℕ} {quads : Bool} (R : Laid c six own quad
         go true false q = refl
         go false p true = refl
         go false p false = refl
-
-    pub across_parting : left_between w a x ≡ 0 → Parting c y (get_or own a 0) (get_or own x 0) a x b d
-    across_parting z = record { all = acbd A; level = R.laying.level; none = z; many = e; own_a = own_at a A.a_lt; own_m = own_at x A.c_lt }
 
     pub round_parting : quads ≡ true → 0 < y → left_between w a x ≢ 0 → Parting c y (get_or own a 0) (get_or own d 0) a d b x
     round_parting t h z = record {
@@ -333,12 +320,6 @@ module _ {c : Cell} {six own : List ℕ} {quads : Bool} (R : Laid c six own quad
   pub own_edge : k ≡ joining a b
   own_edge = rw (Q.a_is, Q.b_is) (sym (joining_ends k l))
 
-  pub low_ring : Round c (get_or own a 0) a b x d
-  low_ring = record { all = at_ends; level = R.laying.level; many = R.laying.own_are a at_ends.a_lt }
-
-  pub high_ring : Round c (get_or own b 0) b a x d
-  high_ring = record { all = bacd at_ends; level = R.laying.level; many = R.laying.own_are b at_ends.b_lt }
-
   abbrev low : List Triangle
   low = ring_on c k true a b x d
 
@@ -369,14 +350,6 @@ module _ {c : Cell} {six own : List ℕ} {quads : Bool} (R : Laid c six own quad
 
         pub on_stored : {is : List ℕ} {r : ℕ} → Stored was₂ j (all_words high) is r → Stored was at (all_words (laid_on c quads k)) is r
         on_stored U = stored_as (both_stored low (middle ++ high) S (both_stored middle high T U)) (ap all_words (sym on_is)) refl
-
--- what is asked for
-module _ {w : ℕ → ℕ} {own : List ℕ} {only : ℕ} where
-  pub asked_all : {n : ℕ} → only ≡ 0 → PlainNumbers w own n → Laying w own (eqb only 0) × (only ≡ length_asked (eqb only 0))
-  asked_all e N = rw (eq-eqb only 0 e) (record { level = N.plain.level; own_are = N.own_are; none = λ _. N.plain.none }, e)
-
-  pub asked_three : only ≢ 0 → only ≡ 3 → Laying w own false → Laying w own (eqb only 0) × (only ≡ length_asked (eqb only 0))
-  asked_three n e L = rw (ne_eqb only 0 n) (L, e)
 
 -- a part is written as `cell` writes it
 module _ (c : Cell) {six own : List ℕ} {only : ℕ} (e : six ≡ values (count_of c) 6) (six_starts : length c.starts ≡ 6) (six-counts : length c.counts ≡ 6) (N : Near c)
