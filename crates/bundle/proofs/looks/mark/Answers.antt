@@ -5,7 +5,7 @@ use Rattle.trees.specs.work.Trees.{top_for}
 use Rattle.bundle.specs.work.Looked.{block_key}
 use Rattle.bundle.proofs.Runs.{walked}
 use Rattle.trees.proofs.Trees.{top_le}
-use Rattle.bundle.proofs.Looked.{marking_none, marking_skip, marking_more, edge_all, edge_whole, edge-ends, edge_next, edge-key}
+use Rattle.bundle.proofs.Looked.{marking_none, marking_skip, marking_more, edge_whole, edge-ends, edge_next, edge-key}
 use Rattle.bundle.proofs.looks.mark.Goals as goal
 use Rattle.bundle.proofs.looks.mark.Goals.{in-Some, in_default}
 
@@ -36,9 +36,3 @@ pub bounds-met-place : goal.bounds-met-place
 bounds-met-place c =
     let b = c.args.block.now in
     omega (arith, c.requires.room, c.loop.invariant.1.long, c.in-Some.ensures, top_le (block_key b.of.bytes.now b.first) b.count c.key_at-key.result)
-
-pub returns : goal.returns
-returns c = let p = c.requires in
-    let w = c.loop.invariant in
-    let e = edge_all _ _ _ _ _ c.args.block.now.of.lent.listed w.0 (omega arith) in
-    record { room = omega (arith, p.room, w.1.long); at = rw e at w.1.marks }

@@ -1,27 +1,18 @@
-use Prim.Native.Nat.{ℕ, ◌<◌}
+use Prim.Native.Nat.{ℕ}
 use mathlib.Core.Path.{◌≡◌, sym, ap, ◌∙◌}
 use mathlib.Core.List.{List}
 use native.Mathlib.Nat.{le_refl}
 use native.Mathlib.Omega.{arith}
-use lib.ListN.{length, get_or}
-use Rattle.counting.proofs.Stored.{filled_none, filled_more, filled_beyond, length_filled}
+use lib.ListN.{get_or}
+use Rattle.counting.proofs.Stored.{filled_none, filled_more, filled_beyond}
 use Rattle.bundle.specs.Bundle.{edge_section, count_after}
 use Rattle.trees.specs.work.Trees.{link_to, top_for}
 use Rattle.bundle.specs.work.Looked.{block_key, top_of, count_or}
 use Rattle.bundle.proofs.Runs.{walked}
 use Rattle.trees.proofs.Trees.{top_le}
-use Rattle.bundle.proofs.Looked.{count_block, edge_all, edge_whole, edge-ends, edge_next, edge-key, edge-number}
+use Rattle.bundle.proofs.Looked.{count_block, edge_whole, edge-ends, edge_next, edge-key, edge-number}
 use Rattle.bundle.proofs.looks.put_counts.Goals as goal
 use Rattle.bundle.proofs.looks.put_counts.Goals.{After-latest-place}
-
--- the list has an entry for the edge
-room : (c : After-latest-place) → c.loop-k.k < length c.loop-k.counts
-room c =
-    let p = c.requires in
-    let b = c.args.block.now in
-    let l = c.loop-k in
-    let h = edge-number _ _ _ _ _ b.of.lent.listed l.invariant.0 c.loop-k-test.true in
-    omega (arith, p.counted.room, h, simp length_filled at (ap length l.invariant.1))
 
 pub loop-k-init : goal.loop-k-init
 loop-k-init c = (walked _ _ edge_section, filled_none _ _)
@@ -29,18 +20,9 @@ loop-k-init c = (walked _ _ edge_section, filled_none _ _)
 pub key_at-key-requires : goal.key_at-key-requires
 key_at-key-requires c = edge-ends _ _ _ _ _ c.args.block.now.of.lent.listed c.loop-k.invariant.0 c.loop-k-test.true
 
-pub latest-place-requires : goal.latest-place-requires
-latest-place-requires c = record { some = omega arith; tree = c.requires.tree }
-
-pub bounds-counts-k : goal.bounds-counts-k
-bounds-counts-k c = omega (arith, room (goal.at.bounds-counts-k c).After-latest-place)
-
 pub count_from-requires : goal.count_from-requires
 count_from-requires c = let b = c.args.block.now in
     omega (arith, c.latest-place.ensures, top_le (block_key b.of.bytes.now b.first) b.count c.key_at-key.result)
-
-pub bounds-counts-k-in-loop-k : goal.bounds-counts-k-in-loop-k
-bounds-counts-k-in-loop-k c = omega (arith, room (goal.at.bounds-counts-k-in-loop-k c).After-latest-place)
 
 pub next_at-at-requires : goal.next_at-at-requires
 next_at-at-requires c = edge_whole _ _ _ _ _ c.args.block.now.of.lent.listed c.loop-k.invariant.0 c.loop-k-test.true
@@ -62,11 +44,3 @@ loop-k-preserved c =
       edge_next _ _ _ _ _ b.of.lent.listed l.invariant.0 h _ c.next_at-at.ensures,
       filled_more _ _ _ _ _ l.invariant.1 new,
     )
-
-pub shape_of-counts : goal.shape_of-counts
-shape_of-counts c = simp length_filled at (ap length c.loop-k.invariant.1)
-
-pub returns : goal.returns
-returns c =
-    let e = edge_all _ _ _ _ _ c.args.block.now.of.lent.listed c.loop-k.invariant.0 (omega arith) in
-    rw e at c.loop-k.invariant.1

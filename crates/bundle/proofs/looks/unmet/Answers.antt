@@ -5,15 +5,6 @@ use Rattle.counting.proofs.Search.{found_hit, found_end}
 use Rattle.bundle.specs.work.Looked.{top_unmet}
 use Rattle.bundle.proofs.looks.unmet.Goals as goal
 
-pub bounds-tops-j : goal.bounds-tops-j
-bounds-tops-j c = omega (arith, c.requires.all)
-
-pub overflow_sub-tops : goal.overflow_sub-tops
-overflow_sub-tops c = omega (arith, c.requires.some c.loop-j.j c.loop-j-test.true)
-
-pub bounds-met-tops : goal.bounds-met-tops
-bounds-met-tops c = omega (arith, c.requires.some c.loop-j.j c.loop-j-test.true, c.requires.room c.loop-j.j c.loop-j-test.true)
-
 pub returns-then-not-met-tops : goal.returns-then-not-met-tops
 unfolding top_unmet
 returns-then-not-met-tops c = found_hit _ _ _ c.loop-j-test.true (rw c.if-not-met-tops.true refl) c.loop-j.invariant

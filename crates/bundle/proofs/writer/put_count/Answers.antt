@@ -14,8 +14,5 @@ returns-then-count-ge-BYTE_VALUES c = rw (bytes_wide _ c.if-count-ge-BYTE_VALUES
 pub bounds-area-at : goal.bounds-area-at
 bounds-area-at c = omega (arith, c.requires, ap length (bytes_narrow _ c.if-count-ge-BYTE_VALUES.false))
 
-pub overflow_cast-area : goal.overflow_cast-area
-overflow_cast-area c = omega (arith, c.if-count-ge-BYTE_VALUES.false)
-
 pub returns : goal.returns
 returns c = rw (bytes_narrow _ c.if-count-ge-BYTE_VALUES.false) (stored_one _ _ _)

@@ -1,8 +1,7 @@
 use Prim.Native.Nat.{◌+◌}
-use mathlib.Core.Path.{◌≡◌}
 use native.Mathlib.Nat.{zero-add}
 use native.Mathlib.Omega.{arith}
-use lib.ListN.{length, get_or}
+use lib.ListN.{get_or}
 use Rattle.counting.specs.Lists.{over}
 use Rattle.counting.proofs.Stored.{stored_none, stored_more, stored_long}
 use Rattle.bundle.specs.Written.{word_bytes}
@@ -20,11 +19,3 @@ pub loop-word-preserved : goal.loop-word-preserved
 loop-word-preserved c =
     let l = c.loop-word in
     stored_more (λ i. word_bytes (get_or c.args.words.now (0 + i) 0)) l.word-index l.invariant (rw (zero-add l.word-index) c.put_word-next.ensures)
-
-pub shape_of-area : goal.shape_of-area
-shape_of-area c = stored_long c.loop-word.invariant
-
-pub returns : goal.returns
-returns c =
-    let e : c.loop-word.word-index ≡ length c.args.words.now = omega arith in
-    rw e at c.loop-word.invariant
