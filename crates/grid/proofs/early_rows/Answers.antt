@@ -7,9 +7,6 @@ use Rattle.grid.proofs.Answers.{answer_clear, answer_found}
 use Rattle.grid.proofs.Working.{fresh_again}
 use Rattle.grid.proofs.early_rows.Goals as goal
 
-pub row_5-requires : goal.row_5-requires
-row_5-requires g c = record { rising_cells = c.requires.rising_cells; slots = c.requires.comparable.told; fresh = fresh_again c.requires.comparable.at_room c.clear.auto.table c.clear.ensures; fresh_2 = c.requires.fresh }
-
 pub returns-in-Some-row_4 : goal.returns-in-Some-row_4
 unfolding since rows
 returns-in-Some-row_4 g c = rw c.at.ensures (answer_found (rebuilt c.args.grid) 4 5 refl _ (sym c.in-Some-row_4.is ∙ c.row_4.ensures))
@@ -20,9 +17,6 @@ returns-in_default g c = let G = rebuilt c.args.grid in (
   answer_clear G 5 6 refl (sym c.in_default.is ∙ c.row_5.ensures.value) ∙ answer_clear G 4 5 refl (sym c.in_default-row_4.is ∙ c.row_4.ensures),
   c.row_5.ensures.neighbours c.in_default.is,
 )
-
-pub crowded_row_4-requires : goal.crowded_row_4-requires
-crowded_row_4-requires g c = let C = c.requires.comparable in (omega (arith, c.well_formed), (omega (arith, c.well_formed), (c.requires.low_chains, record { few = C.few; told = C.told; at_room = omega (arith, C.at_room, c.well_formed); same_room = C.same_room })))
 
 pub returns-in-Some-crowded_row_4 : goal.returns-in-Some-crowded_row_4
 unfolding since rows

@@ -6,9 +6,6 @@ use Rattle.grid.proofs.Answers.{answer_clear, answer_found}
 use Rattle.grid.proofs.Working.{edging_siding}
 use Rattle.grid.proofs.edge_rows.Goals as goal
 
-pub row_6-requires : goal.row_6-requires
-row_6-requires g c = c.requires.pairs
-
 pub returns-in-Some : goal.returns-in-Some
 unfolding since rows
 returns-in-Some g c = record { result_value = rw c.at.ensures (answer_found _ 6 18 refl _ (sym c.in-Some.is ∙ c.row_6.ensures)); where_accepted = tt }

@@ -4,9 +4,6 @@ use Rattle.grid.specs.Rows.{rows}
 use Rattle.grid.proofs.Answers.{answer_clear, answer_found, answer_last}
 use Rattle.grid.proofs.last_rows.Goals as goal
 
-pub row_9-requires : goal.row_9-requires
-row_9-requires g c = c.requires
-
 pub returns-in-Some : goal.returns-in-Some
 unfolding since rows
 returns-in-Some g c = rw c.at.ensures (answer_found _ 9 10 refl _ (sym c.in-Some.is ∙ c.row_9.ensures))

@@ -18,11 +18,6 @@ returns-in_err-crossings c = let G = lent c.args.grid in
     let h = ap check_numbers (sym c.in_err-crossings.was) ∙ c.all_rows.ensures.result_value ∙ verdict G _ c.row_2-wrong.ensures in
     record { result_value = rw (p.1, p.2) h; laid = laid_kept G (refused_keeps G _ h) _ _ }
 
-pub write_names-requires : goal.write_names-requires
-write_names-requires c = let G = lent c.args.grid in
-    let t = c.all_rows in
-    copying G t.result _ c.in_ok-crossings.was (t.ensures.result_value ∙ verdict G _ c.row_2-wrong.ensures) t.new.near t.new.sides t.ensures.where_accepted _ (omega (arith, c.well_formed))
-
 pub write_sides-requires : goal.write_sides-requires
 write_sides-requires c = let G = lent c.args.grid in
     let t = c.all_rows in

@@ -6,9 +6,6 @@ use Rattle.grid.proofs.Answers.{answer_clear, answer_found, where-accepted}
 use Rattle.grid.proofs.Working.{using_linkable, using_table, using_usable}
 use Rattle.grid.proofs.used_rows.Goals as goal
 
-pub row_8-requires : goal.row_8-requires
-row_8-requires g c = using_usable c.requires
-
 pub returns-in-Some : goal.returns-in-Some
 unfolding since rows
 returns-in-Some g c = record { result_value = rw c.at.ensures (answer_found _ 8 9 refl _ (sym c.in-Some.is ∙ c.row_8.ensures.value)); where_accepted = tt }

@@ -12,9 +12,6 @@ use Rattle.grid.proofs.cells.first_same.Goals as goal
 pub loop-c-init : goal.loop-c-init
 loop-c-init c = (below_none _, meets_none _ _ c.requires.fresh.blank)
 
-pub earlier-requires : goal.earlier-requires
-earlier-requires c = record { key_in_bounds = omega (arith, c.loop-c.invariant.1.room, c.requires.cells.few (4 * c.loop-c.c), c.requires.fresh.room); j_bound = omega (arith, c.requires.cells_bound) }
-
 pub returns-then-earlier-gt0 : goal.returns-then-earlier-gt0
 returns-then-earlier-gt0 c = let L = c.loop-c in
     let w = L.invariant in

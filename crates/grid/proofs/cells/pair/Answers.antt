@@ -13,11 +13,6 @@ pub loop-j-init : goal.loop-j-init
 loop-j-init c = let p = c.requires in
     (below_none _, refl, p.blank, meets_none _ _ p.unseen)
 
-pub earlier-p-requires : goal.earlier-p-requires
-earlier-p-requires c = let w = c.loop-j.invariant in
-    let p = c.requires in
-    record { key_in_bounds = omega (arith, w.3.room, p.known c.loop-j.j (omega arith)); j_bound = omega (arith, p.small) }
-
 pub loop-j-preserved-then-p-eq0 : goal.loop-j-preserved-then-p-eq0
 loop-j-preserved-then-p-eq0 c = let L = c.loop-j in
     let w = L.invariant in

@@ -7,8 +7,5 @@ use Rattle.grid.proofs.cells.row_3.Goals as goal
 pub returns-then-bad_cell : goal.returns-then-bad_cell
 returns-then-bad_cell c = record { value = found_hit _ _ _ (omega arith) (sym c.bad_cell.ensures ∙ c.if-bad_cell.true) c.loop-c.invariant; small = λ i. omega (arith, c.type_inv.cells i) }
 
-pub loop-c-preserved : goal.loop-c-preserved
-loop-c-preserved c = below_more _ _ c.loop-c.invariant (sym c.bad_cell.ensures ∙ c.if-bad_cell.false)
-
 pub returns : goal.returns
 returns c = record { value = found_end _ _ (λ i h. c.loop-c.invariant i (omega arith)); small = λ i. omega (arith, c.type_inv.cells i) }

@@ -5,9 +5,6 @@ use Rattle.counting.proofs.Search.{found_end, found_hit}
 use Rattle.grid.proofs.Again.{repeats_again}
 use Rattle.grid.proofs.cells.row_4.Goals as goal
 
-pub again-requires : goal.again-requires
-again-requires c = record { neighbours = c.requires; c_bound = omega arith }
-
 pub returns-then-again : goal.returns-then-again
 returns-then-again c = found_hit _ _ _ (omega arith) (repeats_again _ _ c.requires _ (omega arith) ∙ sym c.again.ensures ∙ c.if-again.true) c.loop-c.invariant
 

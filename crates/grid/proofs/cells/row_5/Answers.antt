@@ -5,17 +5,6 @@ use Rattle.grid.proofs.Faces.{mates_near, third_first}
 use Rattle.grid.proofs.Mates.{mates_none}
 use Rattle.grid.proofs.cells.row_5.Goals as goal
 
-pub pair-requires : goal.pair-requires
-pair-requires c = let p = c.requires in
-    record {
-      keyed = p.slots.room;
-      known = λ j h. omega (arith, p.slots.few j, p.fresh.room);
-      unseen = p.fresh.blank;
-      room = p.fresh_2.room;
-      small = omega (arith, p.rising_cells.few);
-      blank = mates_none _ _ p.fresh_2.blank;
-    }
-
 pub returns-in_err-third : goal.returns-in_err-third
 returns-in_err-third c = let p = c.requires in
     record {

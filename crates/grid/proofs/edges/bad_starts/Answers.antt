@@ -18,9 +18,3 @@ returns-then-starts-e c = let l = c.loop-e in
 pub loop-e-preserved : goal.loop-e-preserved
 loop-e-preserved c = let l = c.loop-e in
     (omega (arith, start_next c.args.counts.now l.e, l.invariant.0), some_miss _ l.e (fine_start _ _ _ (c.if-starts-e.false ∙ l.invariant.0)) ∙ l.invariant.1)
-
-pub returns : goal.returns
-returns c = let l = c.loop-e in
-    let a = c.args in
-    let e : l.e ≡ length a.counts.now = omega arith in
-    sym l.invariant.1 ∙ ap (some (bad_start a.counts.now a.starts.now)) e

@@ -7,8 +7,5 @@ use Rattle.grid.proofs.edges.edge_order.Goals as goal
 pub returns-then-bad_edge : goal.returns-then-bad_edge
 returns-then-bad_edge c = found_hit _ _ _ (omega arith) (sym c.bad_edge.ensures ∙ c.if-bad_edge.true) c.loop-e.invariant
 
-pub loop-e-preserved : goal.loop-e-preserved
-loop-e-preserved c = below_more _ _ c.loop-e.invariant (sym c.bad_edge.ensures ∙ c.if-bad_edge.false)
-
 pub returns : goal.returns
 returns c = found_end _ _ (λ i h. c.loop-e.invariant i (omega arith))

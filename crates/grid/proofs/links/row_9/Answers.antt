@@ -5,9 +5,6 @@ use Rattle.counting.proofs.Search.{found_end, found_hit}
 use Rattle.grid.proofs.Ring.{may_split, split_single, split_told, under_more}
 use Rattle.grid.proofs.links.row_9.Goals as goal
 
-pub loop-e-init : goal.loop-e-init
-loop-e-init c = (below_none _, refl, record { at = λ d. omega (arith, c.requires.marks_new.blank d) })
-
 pub loop-e-preserved-then-d-eq1 : goal.loop-e-preserved-then-d-eq1
 loop-e-preserved-then-d-eq1 c = (below_more _ _ c.loop-e.invariant.0 (split_single c.requires (omega arith) refl _ refl c.if-d-eq1.true _ c.loop-e.invariant.1 c.loop-e.invariant.2), c.loop-e.invariant.1, record { at = λ d. omega (arith, c.loop-e.invariant.2.at d) })
 

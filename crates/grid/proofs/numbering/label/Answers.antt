@@ -4,9 +4,6 @@ use Rattle.grid.proofs.Turns.{does_none, does_number}
 use Rattle.grid.proofs.Passes.{label_end, label_more, label_one}
 use Rattle.grid.proofs.numbering.label.Goals as goal
 
-pub loop-j-init : goal.loop-j-init
-loop-j-init c = does_none _ _ _ _ _ _ (λ j h. omega arith)
-
 pub number-m-requires : goal.number-m-requires
 number-m-requires c = label_one c.requires c.loop-j.invariant (omega arith)
 

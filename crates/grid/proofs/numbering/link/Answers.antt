@@ -11,8 +11,3 @@ pub loop-c-preserved : goal.loop-c-preserved
 loop-c-preserved g c = let w = c.loop-c.invariant in
     let p = c.requires in
     (simp length-set w.0, simp length-set w.1, linking_more w.2 _ refl (omega (arith, w.0, p.below c.loop-c.c (omega arith))) (omega (arith, w.1, p.room)))
-
-pub returns : goal.returns
-returns g c = let w = c.loop-c.invariant in
-    let e : c.loop-c.c ≡ c.args.n = omega arith in
-    linking_end (rw e at w.2) _ (omega (arith, w.0)) (omega (arith, w.1, c.requires.room))

@@ -2,14 +2,6 @@ use native.Mathlib.Omega.{arith}
 use Rattle.grid.proofs.Tellings.{cells_labelling, cells_slotted, faces_told, label-chains, low-chains, node-chains, slots_linkable}
 use Rattle.grid.proofs.numbering.number_faces.Goals as goal
 
-pub label-many-requires : goal.label-many-requires
-label-many-requires g c = cells_labelling c.requires.numerable
-
-pub link_all-requires : goal.link_all-requires
-link_all-requires g c = let S = cells_slotted c.requires.numerable c.label-many.ensures in
-    let T = c.requires.chain_tables in
-    (omega (arith, c.well_formed), (slots_linkable S 0 (omega arith) _ _ T.h0_new T.x0_room, (slots_linkable S 1 (omega arith) _ _ T.h1_new T.x1_room, slots_linkable S 2 (omega arith) _ _ T.h2_new T.x2_room)))
-
 pub number_slots-requires : goal.number_slots-requires
 number_slots-requires g c = let S = cells_slotted c.requires.numerable c.label-many.ensures in
     let e = c.link_all.ensures in

@@ -4,11 +4,6 @@ use Rattle.grid.proofs.Tellings.{faces_passable, faces_tell, slots_pairable, slo
 use Rattle.grid.proofs.Working.{fresh_again}
 use Rattle.grid.proofs.numbering.number_slots.Goals as goal
 
-pub number_pairs-requires : goal.number_pairs-requires
-number_pairs-requires g c = let S = c.requires.slotted in
-    let C = c.requires.label_chains in
-    (omega (arith, c.well_formed), slots_pairable S _ _ _ _ _ _ _ C.by1 C.by2 S.faces_room c.requires.fresh (record { room = S.same_room; blank = S.same_blank }))
-
 pub pass-requires : goal.pass-requires
 pass-requires g c = let C = c.requires.label_chains in
     let S = slotted_faces c.requires.slotted (c.clear.auto.table ∙ c.number_pairs.auto.keys) c.clear.ensures in

@@ -4,10 +4,6 @@ use Rattle.grid.proofs.Turns.{does_number}
 use Rattle.grid.proofs.Places.{slot_in, slots_more, slots_none, slots_ready}
 use Rattle.grid.proofs.numbering.numbers.Goals as goal
 
-pub loop-s-init : goal.loop-s-init
-loop-s-init c = let p = c.requires in
-    slots_none _ _ _ p.to_bound
-
 pub overflow_mul-c : goal.overflow_mul-c
 overflow_mul-c c = let p = c.requires in
     let w = c.loop-s.invariant in

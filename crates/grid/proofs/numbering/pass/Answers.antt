@@ -2,9 +2,6 @@ use native.Mathlib.Omega.{arith}
 use Rattle.grid.proofs.Passes.{passing_a, passing_b, passing_end, passing_more, passing_none}
 use Rattle.grid.proofs.numbering.pass.Goals as goal
 
-pub loop-r-init : goal.loop-r-init
-loop-r-init g c = passing_none
-
 pub walk-d-requires : goal.walk-d-requires
 walk-d-requires g c = (omega (arith, c.well_formed), passing_a c.loop-r.invariant c.requires (omega arith))
 

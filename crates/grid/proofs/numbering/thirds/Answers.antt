@@ -9,8 +9,3 @@ loop-c-init c = filled_none _ _
 
 pub loop-c-preserved : goal.loop-c-preserved
 loop-c-preserved c = thirds_more c.args.labels.now c.args.out.now c.loop-c.out c.loop-c.c c.loop-c.invariant
-
-pub returns : goal.returns
-returns c = let w = c.loop-c.invariant in
-    let e : c.loop-c.c ≡ c.args.n = omega arith in
-    rw (← e) w

@@ -3,9 +3,6 @@ use native.Mathlib.Omega.{arith}
 use Rattle.grid.proofs.Places.{walking_empty, walking_end, walking_less, walking_lt, walking_more, walking_ready, walking_start}
 use Rattle.grid.proofs.numbering.walk.Goals as goal
 
-pub returns-then-to-from : goal.returns-then-to-from
-returns-then-to-from g c = walking_empty c.if-to-from.true
-
 pub loop-j-init : goal.loop-j-init
 loop-j-init g c = walking_start _ refl
 

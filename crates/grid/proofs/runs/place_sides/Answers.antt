@@ -12,17 +12,8 @@ returns-then-u-gt-HIGHEST_NODE g c = placing_stop c.requires c.loop-e.invariant 
 pub fill_run-f-requires : goal.fill_run-f-requires
 fill_run-f-requires g c = placing_fillable c.requires c.loop-e.invariant (omega arith) _ refl
 
-pub turn_sides-requires : goal.turn_sides-requires
-turn_sides-requires g c = (omega (arith, c.well_formed), placing_turnable c.requires c.loop-e.invariant (omega arith) _ (omega (arith, c.if-u-gt-HIGHEST_NODE.false)) _ c.fill_run-f.ensures.same)
-
 pub clear_run-requires : goal.clear_run-requires
 clear_run-requires g c = placing_clearable c.requires c.loop-e.invariant (omega arith) refl c.fill_run-f.ensures
 
-pub loop-e-smaller : goal.loop-e-smaller
-loop-e-smaller g c = omega (arith, c.fill_run-f.ensures.more, c.fill_run-f.ensures.within)
-
 pub loop-e-preserved : goal.loop-e-preserved
 loop-e-preserved g c = placing_more c.requires c.loop-e.invariant (omega arith) refl c.fill_run-f.ensures _ refl _ _ c.clear_run.ensures (c.clear_run.auto.tab ∙ c.fill_run-f.ensures.same) c.turn_sides.ensures
-
-pub returns : goal.returns
-returns g c = placing_end c.requires c.loop-e.invariant (omega arith)

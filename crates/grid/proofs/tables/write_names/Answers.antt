@@ -14,8 +14,3 @@ pub loop-j-preserved : goal.loop-j-preserved
 loop-j-preserved c = let c-args = c.args in
     let c-loop = c.loop-j in
     filled_more (λ j. lower_place j (get_or c-args.across.now j 0)) _ _ _ _ c-loop.invariant c.lower.ensures.value
-
-pub returns : goal.returns
-returns c = let c-args = c.args in
-    let e : c.loop-j.j ≡ c-args.n = omega arith in
-    c.loop-j.invariant ∙ ap (λ (x : ℕ). filled (λ j. lower_place j (get_or c-args.across.now j 0)) x c-args.names.now) e

@@ -11,7 +11,3 @@ loop-j-init c = filled_none _ _
 
 pub loop-j-preserved : goal.loop-j-preserved
 loop-j-preserved c = filled_more (λ j. get_or c.args.listed.now j 0 - 1) _ _ _ _ c.loop-j.invariant refl
-
-pub returns : goal.returns
-returns c = let e : c.loop-j.j ≡ c.args.n = omega arith in
-    c.loop-j.invariant ∙ ap (λ (x : ℕ). filled (λ j. get_or c.args.listed.now j 0 - 1) x c.args.sides.now) e

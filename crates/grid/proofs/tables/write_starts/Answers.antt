@@ -23,8 +23,3 @@ pub loop-e-preserved : goal.loop-e-preserved
 loop-e-preserved c = let c-args = c.args in
     let c-loop = c.loop-e in
     (omega (arith, start_next c-args.counts.now c-loop.e, c-loop.invariant.0), filled_more (start c-args.counts.now) _ _ _ _ c-loop.invariant.1 c-loop.invariant.0)
-
-pub returns : goal.returns
-returns c = let c-args = c.args in
-    let e : c.loop-e.e ≡ length c-args.counts.now = omega arith in
-    c.loop-e.invariant.1 ∙ ap (λ (x : ℕ). filled (start c-args.counts.now) x c-args.starts.now) e
