@@ -1,5 +1,4 @@
 use mathlib.Core.Path.{refl}
-use native.Mathlib.Omega.{arith}
 use Rattle.shading.proofs.Bytes.{byte_free, root_read, child_read}
 use Rattle.shading.proofs.byte_of.Goals as goal
 
@@ -9,10 +8,6 @@ returns-then-links-x c = let a = c.args in byte_free a.links.now a.area.now a.x 
 pub returns-then-p-x : goal.returns-then-p-x
 returns-then-p-x c = let a = c.args in
     root_read a.links.now a.area.now a.x c.if-links-x.false _ refl c.if-p-x.true
-
-pub bounds-area-p : goal.bounds-area-p
-bounds-area-p c = let P = c.requires in
-    omega (arith, P.writable.room, P.x_lt_most_nodes, P.writable.forest.low_parent c.args.x (P.x_lt_most_nodes, c.if-links-x.false))
 
 pub returns-else-p-x : goal.returns-else-p-x
 returns-else-p-x c = let a = c.args in

@@ -3,9 +3,6 @@ use native.Mathlib.Omega.{arith}
 use Rattle.shading.proofs.Forests.{finding_none, finding_more, finding_end}
 use Rattle.shading.proofs.links.find.Goals as goal
 
-pub bounds-links-x : goal.bounds-links-x
-bounds-links-x c = omega (arith, c.requires.linked.0, c.requires.forest.long)
-
 pub loop-p-init : goal.loop-p-init
 loop-p-init c = let a = c.args in
     (finding_none a.links.now a.x c.requires, refl)
@@ -13,10 +10,6 @@ loop-p-init c = let a = c.args in
 pub halve-z-requires : goal.halve-z-requires
 halve-z-requires c = let l = c.loop-p in
     record { forest = l.invariant.0.halved.forest; linked = l.invariant.0.linked; child = λ e. c.loop-p-test.true (l.invariant.1 ∙ e) }
-
-pub bounds-links-y : goal.bounds-links-y
-bounds-links-y c = let h = c.halve-z.ensures in
-    omega (arith, h.lower, c.loop-p.invariant.0.linked.0, h.halved.forest.long)
 
 pub loop-p-smaller : goal.loop-p-smaller
 loop-p-smaller c = omega (arith, c.halve-z.ensures.lower)
@@ -26,9 +19,6 @@ loop-p-preserved c = let l = c.loop-p in
     let a = c.args in
     let h = c.halve-z in
     (finding_more a.links.now a.x l.links l.y l.side l.invariant.0 _ h.result h.ensures, refl)
-
-pub shape_of-links : goal.shape_of-links
-shape_of-links c = c.loop-p.invariant.0.halved.forest.long ∙ sym c.requires.forest.long
 
 pub returns : goal.returns
 returns c = let l = c.loop-p in finding_end c.args.links.now c.args.x l.links l.y l.side l.invariant.0 (sym l.invariant.1 ∙ c.loop-p-test.false)

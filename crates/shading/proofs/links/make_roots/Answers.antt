@@ -1,5 +1,5 @@
 use Prim.Native.Nat.{◌*◌}
-use mathlib.Core.Path.{◌≡◌, refl, sym, ◌∙◌}
+use mathlib.Core.Path.{◌≡◌, refl}
 use native.Mathlib.Omega.{arith}
 use lib.ListN.{length}
 use Rattle.grid.proofs.Nodes.{noted_none, noted_more, noted_all}
@@ -9,19 +9,10 @@ use Rattle.shading.proofs.links.make_roots.Goals as goal
 pub loop-x-init : goal.loop-x-init
 loop-x-init c = noted_none _ (λ x. 2 * x) no_link _ c.requires.blank
 
-pub overflow_mul-links : goal.overflow_mul-links
-overflow_mul-links c = omega (arith, c.requires.nodes c.loop-x.x-index (omega arith))
-
-pub bounds-links-x : goal.bounds-links-x
-bounds-links-x c = omega (arith, c.loop-x.invariant.long, c.requires.nodes c.loop-x.x-index (omega arith))
-
 pub loop-x-preserved : goal.loop-x-preserved
 loop-x-preserved c = let l = c.loop-x in
     noted_more c.args.cells.now (λ x. 2 * x) no_link l.links l.x-index _ l.invariant refl
     (omega (arith, c.requires.nodes l.x-index (omega arith))) _ refl
-
-pub shape_of-links : goal.shape_of-links
-shape_of-links c = c.loop-x.invariant.long ∙ sym (noted_none c.args.cells.now (λ x. 2 * x) no_link _ c.requires.blank).long
 
 pub returns : goal.returns
 returns c = let l = c.loop-x in

@@ -1,6 +1,4 @@
-use mathlib.Core.Path.{sym, ◌∙◌}
 use native.Mathlib.Omega.{arith}
-use lib.ListN.{length-set}
 use Rattle.shading.proofs.Ties.{united_one, united_lower, united_higher}
 use Rattle.shading.proofs.links.unite.Goals as goal
 
@@ -15,19 +13,11 @@ returns-then-p-q c = let a = c.args in
     let B = c.find-b in
     united_one a.links.now _ _ a.u a.v a.count A.result B.result A.ensures B.ensures c.if-p-q.true
 
-pub shape_of-links-then-p-q-2 : goal.shape_of-links-then-p-q-2
-shape_of-links-then-p-q-2 c = let B = c.find-b.ensures in
-    simp length-set (B.halved.forest.long ∙ sym c.requires.unitable.forest.long)
-
 pub returns-then-p-q-2 : goal.returns-then-p-q-2
 returns-then-p-q-2 c = let a = c.args in
     let A = c.find-a in
     let B = c.find-b in
     united_lower a.links.now _ _ a.u a.v a.count A.result B.result A.ensures B.ensures c.if-p-q-2.true
-
-pub shape_of-links-else-p-q-2 : goal.shape_of-links-else-p-q-2
-shape_of-links-else-p-q-2 c = let B = c.find-b.ensures in
-    simp length-set (B.halved.forest.long ∙ sym c.requires.unitable.forest.long)
 
 pub returns-else-p-q-2 : goal.returns-else-p-q-2
 returns-else-p-q-2 c = let a = c.args in

@@ -1,4 +1,4 @@
-use mathlib.Core.Path.{◌≡◌, refl, sym, ◌∙◌, subst}
+use mathlib.Core.Path.{◌≡◌, refl, subst}
 use native.Mathlib.Omega.{arith}
 use lib.ListN.{length}
 use Rattle.counting.proofs.Bools.{clash}
@@ -8,12 +8,6 @@ use Rattle.shading.proofs.links.unite_all.Goals as goal
 
 pub loop-e-init : goal.loop-e-init
 loop-e-init c = tied_none _ _ _ c.requires
-
-pub bounds-edges-e : goal.bounds-edges-e
-bounds-edges-e c = omega (arith, c.requires.pairs)
-
-pub bounds-edges-e-in-loop-e : goal.bounds-edges-e-in-loop-e
-bounds-edges-e-in-loop-e c = omega (arith, c.requires.pairs)
 
 pub unite-requires : goal.unite-requires
 unite-requires c = let l = c.loop-e in
@@ -42,9 +36,6 @@ loop-e-preserved c = let l = c.loop-e in
     let a = c.args in
     tied_more a.edges.now a.counts.now a.links.now l.e l.links l.invariant (omega arith) _ _ _
     refl refl refl _ _ c.unite.ensures c.if-not-unite.false
-
-pub shape_of-links : goal.shape_of-links
-shape_of-links c = c.loop-e.invariant.forest.long ∙ sym c.requires.forest.long
 
 pub returns : goal.returns
 returns c = let l = c.loop-e in
