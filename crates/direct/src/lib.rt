@@ -93,6 +93,7 @@ impl LevelCell {
 }
 
 // Number i of a row.
+#[inline(always)]
 fn number_in(r: Row, i: u32) -> u32
     requires { Has r i }
     ensures { result ≡ in_row r i }
@@ -112,6 +113,7 @@ fn side_of(names: [u16; 4], s: usize, g: u32, h: u32) -> Side
 }
 
 // The triangle of a loop of three.
+#[inline(always)]
 fn whole_of(c: Cell, g0: u32, g1: u32, g2: u32, s0: usize, s1: usize, s2: usize) -> Triangle
     requires { (s0 < 4) × (s1 < 4) × (s2 < 4) }
     ensures { result ≡ whole c g0 g1 g2 s0 s1 s2 }
@@ -133,6 +135,7 @@ fn whole_of(c: Cell, g0: u32, g1: u32, g2: u32, s0: usize, s1: usize, s2: usize)
 }
 
 // The two of a loop of four.
+#[inline(always)]
 fn half0_of(c: Cell, g0: u32, g1: u32, g2: u32, s0: usize, s1: usize) -> Triangle
     requires { (s0 < 4) × (s1 < 4) }
     ensures { result ≡ half0 c g0 g1 g2 s0 s1 }
@@ -152,6 +155,7 @@ fn half0_of(c: Cell, g0: u32, g1: u32, g2: u32, s0: usize, s1: usize) -> Triangl
     }
 }
 
+#[inline(always)]
 fn half1_of(c: Cell, g0: u32, g2: u32, g3: u32, s2: usize, s3: usize) -> Triangle
     requires { (s2 < 4) × (s3 < 4) }
     ensures { result ≡ half1 c g0 g2 g3 s2 s3 }
@@ -178,12 +182,13 @@ impl LevelCell {
         requires n_in_bounds { at + word_count * n ≤ length area.old }
         ensures { Stored area.old at (all_words (over (threes_in self.now.cell loops) n 0)) area.new result }
     {
+        let cell = self.cell;
         let mut j = at;
         for i in 0..n {
             let g0 = number_in(loops.x, i);
             let g1 = number_in(loops.y, i);
             let g2 = number_in(loops.z, i);
-            let t = whole_of(self.cell, g0, g1, g2, loops.s0, loops.s1, loops.s2);
+            let t = whole_of(cell, g0, g1, g2, loops.s0, loops.s1, loops.s2);
             put(area, j, t);
             j += WORD_COUNT;
         }
@@ -196,15 +201,16 @@ impl LevelCell {
         requires n_in_bounds { at + word_count * (2 * n) ≤ length area.old }
         ensures { Stored area.old at (all_words (over (fours_in self.now.cell loops) n 0)) area.new result }
     {
+        let cell = self.cell;
         let mut j = at;
         for i in 0..n {
             let g0 = number_in(loops.x, i);
             let g1 = number_in(loops.y, i);
             let g2 = number_in(loops.z, i);
             let g3 = number_in(loops.u, i);
-            let t = half0_of(self.cell, g0, g1, g2, loops.s0, loops.s1);
+            let t = half0_of(cell, g0, g1, g2, loops.s0, loops.s1);
             put(area, j, t);
-            let u = half1_of(self.cell, g0, g2, g3, loops.s2, loops.s3);
+            let u = half1_of(cell, g0, g2, g3, loops.s2, loops.s3);
             put(area, j + WORD_COUNT, u);
             j += 2 * WORD_COUNT;
         }
