@@ -1,10 +1,8 @@
 use mathlib.Core.Path.{◌∙◌, refl, sym}
-use native.Mathlib.Omega.{arith}
 use Rattle.answer.specs.work.Faults.{since}
 use Rattle.grid.specs.Lent.{rebuilt}
 use Rattle.grid.specs.Rows.{rows}
 use Rattle.grid.proofs.Answers.{answer_clear, answer_found}
-use Rattle.grid.proofs.Working.{fresh_again}
 use Rattle.grid.proofs.early_rows.Goals as goal
 
 pub returns-in-Some-row_4 : goal.returns-in-Some-row_4

@@ -4,7 +4,7 @@ use Rattle.std.proofs.lemmas.Result.{err_from_is_err_and}
 use Rattle.grid.specs.Check.{check_numbers}
 use Rattle.grid.specs.Lent.{lent}
 use Rattle.grid.proofs.Answers.{verdict}
-use Rattle.grid.proofs.Filled.{copying, laid_filled, laid_kept, lowering, refused_keeps}
+use Rattle.grid.proofs.Filled.{laid_filled, laid_kept, lowering, refused_keeps}
 use Rattle.grid.proofs.Starts.{lists_fine}
 use Rattle.grid.proofs.Working.{blank_tables}
 use Rattle.grid.proofs.lay.Goals as goal

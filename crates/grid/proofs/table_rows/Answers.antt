@@ -1,7 +1,4 @@
-use mathlib.Core.Path.{◌∙◌}
 use native.Mathlib.Omega.{arith}
-use Rattle.std.proofs.lemmas.Result.{err_from_is_err_and}
-use Rattle.grid.proofs.Answers.{early_clear, early_refused, worked}
 use Rattle.grid.proofs.Meets.{rising_numerable}
 use Rattle.grid.proofs.Working.{chains_new, fresh_less}
 use Rattle.grid.proofs.table_rows.Goals as goal

@@ -3,7 +3,7 @@ use mathlib.Core.Path.{◌∙◌, refl, sym}
 use Rattle.answer.specs.work.Faults.{since}
 use Rattle.grid.specs.Rows.{rows}
 use Rattle.grid.proofs.Answers.{answer_clear, answer_found, where-accepted}
-use Rattle.grid.proofs.Working.{using_linkable, using_table, using_usable}
+use Rattle.grid.proofs.Working.{using_linkable, using_table}
 use Rattle.grid.proofs.used_rows.Goals as goal
 
 pub returns-in-Some : goal.returns-in-Some

@@ -1,6 +1,5 @@
 use mathlib.Core.Path.{◌∙◌, sym}
 use native.Mathlib.Omega.{arith}
-use borrow.Author.Count.{below_more}
 use Rattle.counting.proofs.Search.{found_end, found_hit}
 use Rattle.grid.proofs.cells.row_3.Goals as goal
 

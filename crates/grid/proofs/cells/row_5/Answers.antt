@@ -2,7 +2,6 @@ use mathlib.Core.Path.{◌∙◌, sym}
 use native.Mathlib.Omega.{arith}
 use Rattle.grid.proofs.Blocks.{block_found, block_none}
 use Rattle.grid.proofs.Faces.{mates_near, third_first}
-use Rattle.grid.proofs.Mates.{mates_none}
 use Rattle.grid.proofs.cells.row_5.Goals as goal
 
 pub returns-in_err-third : goal.returns-in_err-third

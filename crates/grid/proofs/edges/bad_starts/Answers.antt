@@ -1,9 +1,6 @@
-use mathlib.Core.Path.{◌∙◌, ◌≡◌, ap, sym}
+use mathlib.Core.Path.{◌∙◌, sym}
 use native.Mathlib.Omega.{arith}
-use lib.ListN.{length}
-use Rattle.counting.specs.Search.{some}
 use Rattle.counting.proofs.Search.{some_found, some_miss, some_zero}
-use Rattle.grid.specs.Rows.{bad_start}
 use Rattle.grid.proofs.Crossings.{start_next, start_zero}
 use Rattle.grid.proofs.Starts.{bad-start, fine_start}
 use Rattle.grid.proofs.edges.bad_starts.Goals as goal

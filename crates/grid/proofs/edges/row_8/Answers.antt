@@ -1,6 +1,4 @@
 use native.Mathlib.Omega.{arith}
-use borrow.Author.Tests.{ne_eqb}
-use borrow.Author.Count.{below_more}
 use Rattle.grid.proofs.Sides.{row_8_hit, row_8_last, row_8_none}
 use Rattle.grid.proofs.edges.row_8.Goals as goal
 

@@ -1,6 +1,6 @@
 use mathlib.Core.Path.{◌∙◌, refl}
 use native.Mathlib.Omega.{arith}
-use borrow.Author.Count.{below_more, below_none}
+use borrow.Author.Count.{below_more}
 use Rattle.counting.proofs.Search.{found_end, found_hit}
 use Rattle.grid.proofs.Ring.{may_split, split_single, split_told, under_more}
 use Rattle.grid.proofs.links.row_9.Goals as goal

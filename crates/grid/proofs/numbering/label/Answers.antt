@@ -1,6 +1,6 @@
 use mathlib.Core.Path.{◌≡◌}
 use native.Mathlib.Omega.{arith}
-use Rattle.grid.proofs.Turns.{does_none, does_number}
+use Rattle.grid.proofs.Turns.{does_number}
 use Rattle.grid.proofs.Passes.{label_end, label_more, label_one}
 use Rattle.grid.proofs.numbering.label.Goals as goal
 

@@ -1,7 +1,7 @@
-use mathlib.Core.Path.{◌≡◌, refl}
+use mathlib.Core.Path.{refl}
 use native.Mathlib.Omega.{arith}
 use lib.ListN.{length-set}
-use Rattle.grid.proofs.Passes.{linking_end, linking_more, linking_none}
+use Rattle.grid.proofs.Passes.{linking_more, linking_none}
 use Rattle.grid.proofs.numbering.link.Goals as goal
 
 pub loop-c-init : goal.loop-c-init

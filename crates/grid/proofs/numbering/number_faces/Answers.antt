@@ -1,5 +1,5 @@
 use native.Mathlib.Omega.{arith}
-use Rattle.grid.proofs.Tellings.{cells_labelling, cells_slotted, faces_told, label-chains, low-chains, node-chains, slots_linkable}
+use Rattle.grid.proofs.Tellings.{cells_slotted, faces_told, label-chains, low-chains, node-chains}
 use Rattle.grid.proofs.numbering.number_faces.Goals as goal
 
 pub number_slots-requires : goal.number_slots-requires

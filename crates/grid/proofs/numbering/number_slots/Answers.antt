@@ -1,6 +1,6 @@
 use native.Mathlib.Omega.{arith}
 use mathlib.Core.Path.{◌∙◌}
-use Rattle.grid.proofs.Tellings.{faces_passable, faces_tell, slots_pairable, slotted_faces}
+use Rattle.grid.proofs.Tellings.{faces_passable, faces_tell, slotted_faces}
 use Rattle.grid.proofs.Working.{fresh_again}
 use Rattle.grid.proofs.numbering.number_slots.Goals as goal
 

@@ -1,7 +1,7 @@
 use mathlib.Core.Path.{◌≡◌}
 use native.Mathlib.Omega.{arith}
 use Rattle.grid.proofs.Turns.{does_number}
-use Rattle.grid.proofs.Places.{slot_in, slots_more, slots_none, slots_ready}
+use Rattle.grid.proofs.Places.{slot_in, slots_more, slots_ready}
 use Rattle.grid.proofs.numbering.numbers.Goals as goal
 
 pub overflow_mul-c : goal.overflow_mul-c

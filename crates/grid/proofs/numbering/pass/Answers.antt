@@ -1,5 +1,5 @@
 use native.Mathlib.Omega.{arith}
-use Rattle.grid.proofs.Passes.{passing_a, passing_b, passing_end, passing_more, passing_none}
+use Rattle.grid.proofs.Passes.{passing_a, passing_b, passing_end, passing_more}
 use Rattle.grid.proofs.numbering.pass.Goals as goal
 
 pub walk-d-requires : goal.walk-d-requires

@@ -1,5 +1,3 @@
-use mathlib.Core.Path.{◌≡◌}
-use native.Mathlib.Omega.{arith}
 use Rattle.counting.proofs.Stored.{filled_none}
 use Rattle.grid.proofs.Tellings.{thirds_more}
 use Rattle.grid.proofs.numbering.thirds.Goals as goal

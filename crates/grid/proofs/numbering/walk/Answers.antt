@@ -1,6 +1,6 @@
 use mathlib.Core.Path.{refl}
 use native.Mathlib.Omega.{arith}
-use Rattle.grid.proofs.Places.{walking_empty, walking_end, walking_less, walking_lt, walking_more, walking_ready, walking_start}
+use Rattle.grid.proofs.Places.{walking_end, walking_less, walking_lt, walking_more, walking_ready, walking_start}
 use Rattle.grid.proofs.numbering.walk.Goals as goal
 
 pub loop-j-init : goal.loop-j-init

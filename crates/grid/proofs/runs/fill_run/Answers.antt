@@ -1,5 +1,5 @@
 use native.Mathlib.Omega.{arith}
-use Rattle.grid.proofs.Laying.{filling_end, filling_more, filling_start, filling_stop}
+use Rattle.grid.proofs.Laying.{filling_more}
 use Rattle.grid.proofs.runs.fill_run.Goals as goal
 
 pub loop-e-preserved : goal.loop-e-preserved

@@ -1,6 +1,6 @@
 use mathlib.Core.Path.{◌∙◌, refl}
 use native.Mathlib.Omega.{arith}
-use Rattle.grid.proofs.Laying.{placing_clearable, placing_end, placing_fillable, placing_more, placing_start, placing_stop, placing_turnable}
+use Rattle.grid.proofs.Laying.{placing_clearable, placing_fillable, placing_more, placing_start, placing_stop}
 use Rattle.grid.proofs.runs.place_sides.Goals as goal
 
 pub loop-e-init : goal.loop-e-init

@@ -1,6 +1,5 @@
-use native.Mathlib.Omega.{arith}
-use mathlib.Core.Path.{◌∙◌, refl}
-use Rattle.grid.proofs.Laying.{turn_lays, turn_walkable}
+use mathlib.Core.Path.{refl}
+use Rattle.grid.proofs.Laying.{turn_lays}
 use Rattle.grid.proofs.runs.turn_sides.Goals as goal
 
 pub returns : goal.returns

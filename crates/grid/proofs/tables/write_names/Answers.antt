@@ -1,8 +1,4 @@
-use Prim.Native.Nat.{ℕ}
-use mathlib.Core.Path.{◌∙◌, ◌≡◌, ap}
-use native.Mathlib.Omega.{arith}
 use lib.ListN.{get_or}
-use Rattle.counting.specs.Stored.{filled}
 use Rattle.counting.proofs.Stored.{filled_more, filled_none}
 use Rattle.grid.specs.work.Work.{lower_place}
 use Rattle.grid.proofs.tables.write_names.Goals as goal

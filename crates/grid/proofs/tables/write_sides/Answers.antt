@@ -1,8 +1,6 @@
-use Prim.Native.Nat.{ℕ, ◌-◌}
-use mathlib.Core.Path.{◌∙◌, ◌≡◌, ap, refl}
-use native.Mathlib.Omega.{arith}
+use Prim.Native.Nat.{◌-◌}
+use mathlib.Core.Path.{refl}
 use lib.ListN.{get_or}
-use Rattle.counting.specs.Stored.{filled}
 use Rattle.counting.proofs.Stored.{filled_more, filled_none}
 use Rattle.grid.proofs.tables.write_sides.Goals as goal
 

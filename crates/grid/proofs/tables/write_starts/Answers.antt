@@ -1,8 +1,5 @@
-use Prim.Native.Nat.{ℕ}
-use mathlib.Core.Path.{◌∙◌, ◌≡◌, ap}
 use native.Mathlib.Omega.{arith}
 use lib.ListN.{length}
-use Rattle.counting.specs.Stored.{filled}
 use Rattle.counting.proofs.Tables.{table_filled}
 use Rattle.counting.proofs.Stored.{filled_more}
 use Rattle.grid.specs.Grid.{start}
