@@ -9,13 +9,13 @@ use native.Mathlib.Omega.{arith}
 use lib.Dec.{leb, ltb}
 use lib.ListN.{length}
 use lib.Ieee.{Float}
-use borrow.Author.Tests.{le-leb, leb-true, leb-false, ltb-true}
+use borrow.Author.Tests.{leb-true, leb-false, ltb-true}
 use Rattle.counting.specs.Gcd.{gcd}
 use Rattle.counting.specs.Pick.{pick}
 use Rattle.counting.specs.Lists.{gather, over}
 use Rattle.counting.specs.work.Stored.{Stored}
 use Rattle.counting.specs.claims.Lists.{next_in}
-use Rattle.counting.proofs.Bools.{bool_same, and_right}
+use Rattle.counting.proofs.Bools.{and_right}
 use Rattle.counting.proofs.Gcd.{gcd_both}
 use Rattle.counting.proofs.Stored.{stored_none, stored_as, stored_more, stored_fits, stored_room, stored_not, stored_nothing, stored_same}
 use Rattle.slots.specs.Limits.{most_count}
@@ -167,13 +167,6 @@ unfolding inner_in added_in
 spots_at cells counts names sides starts c e A =
     let t : count_of (table_cell cells counts names sides starts c) ≡ by_edge (taken_counts counts sides c) = sym (taken_is cells counts names sides starts c) in
     (A.inner_are ∙ ap (λ v. inner_by (count_of v)) e ∙ ap inner_by t, A.more_are ∙ ap (λ v. fans_by (count_of v)) e ∙ ap fans_by t)
-
--- room, by the points that are left
-pub fits_same : (room i n : ℕ) → i ≤ room / coordinates → leb n (room / coordinates - i) ≡ leb (coordinates * i + coordinates * n) room
-fits_same room i n h =
-    bool_same (leb n (room / coordinates - i)) (leb (coordinates * i + coordinates * n) room)
-    (λ t. le-leb (coordinates * i + coordinates * n) room (omega (arith, leb-true n (room / coordinates - i) t)))
-    (λ t. le-leb n (room / coordinates - i) (omega (arith, leb-true (coordinates * i + coordinates * n) room t)))
 
 -- points in an area: none, some that have room, and some that have none
 pub stored_empty : (area : List Float) (i : ℕ) → (area, i) ≡ points_stored area i []

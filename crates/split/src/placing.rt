@@ -77,8 +77,8 @@ fn put_arm(a: Place, v: Place, n: u32, area: &mut [f64], i: usize) -> usize
     i + n as usize
 }
 
-// The inner crossings of c, a cell or a sub-cell whose nodes are at `at`, in order of working; the other numbers are those of `split_in`. The sum of d1
-// and d2 falls from split to split (01).
+// The inner crossings of c, a cell or a sub-cell whose nodes are at `at`, in order of working, as `split_in` has its parts. The sum of d1 and d2
+// falls from split to split (01).
 pub(crate) fn inner_in(
     c: Cell,
     at: [Place; 4],
