@@ -1,12 +1,13 @@
 -- Laws of an answer's numbers put into a lent area.
 use Prim.Native.Nat.{ℕ, ◌<◌, ◌≤◌}
-use mathlib.Core.Path.{◌≡◌, ◌∙◌}
-use mathlib.Core.List.{List}
+use mathlib.Core.Path.{◌≡◌, sym, ap, ◌∙◌}
+use mathlib.Core.List.{List, ◌++◌}
 use native.Mathlib.Nat.{zero-add}
 use native.Mathlib.Omega.{arith}
-use lib.ListN.{length}
+use lib.ListN.{length, drop}
 use borrow.Author.Tests.{le-leb, lt-leb}
 use Rattle.counting.specs.work.Stored.{Stored}
+use Rattle.counting.proofs.Fronts.{sets_front}
 use Rattle.capi.specs.Written.{answer_words, if_room, Answers}
 
 -- what is chosen with too little room, and with enough
@@ -27,3 +28,10 @@ answers_short h = record { many = room_short _ _ _ h; most = omega arith; area =
 pub answers_put : {numbers was is : List ℕ} {next : ℕ} → Stored was 0 numbers is next → length numbers ≤ answer_words → answer_words ≤ length was
     → Answers numbers was is next
 answers_put S h room = record { many = room_enough _ _ _ room (S.after ∙ zero-add _); most = omega (arith, S.after); area = room_enough _ _ _ room S.area }
+
+-- numbers that are copied to the front
+pub stored_copied : (l numbers : List ℕ) {copied : List ℕ} → length numbers ≤ length l → copied ≡ numbers → Stored l 0 numbers (copied ++ drop (length numbers) l) (length numbers)
+stored_copied l numbers {copied} h e = record {
+  area = ap (λ (y : List ℕ). y ++ drop (length numbers) l) e ∙ sym (sets_front numbers l h);
+  after = sym (zero-add (length numbers));
+}

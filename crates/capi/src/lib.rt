@@ -2,9 +2,11 @@
 // too few words for any answer, the call changes nothing at all and returns how many are needed. No pointer is kept.
 #![tactic(auto)]
 
-ghost use Rattle.std.specs.Prelude.{◌≤◌, ◌≡◌, [], ◌∷◌, length};
+ghost use Rattle.std.specs.Prelude.{◌≤◌, ◌≡◌, ℕ, List, [], ◌∷◌, length};
+ghost use Rattle.answer.specs.Refusal.{refusal_numbers, answer_numbers};
+ghost use Rattle.capi.specs.Values.{option_values, case_values, booking_values, loop_values};
 ghost use Rattle.capi.specs.Written.{answer_words, if_room, Answers, body_numbers};
-ghost use Rattle.bundle.specs.Record.{record_answer};
+ghost use Rattle.bundle.specs.Record.{kind_number, record_answer};
 ghost use Rattle.bundle.specs.Bundle.{is_taken, read_answer, nodes_of, ends_of, counts_of, leaves};
 ghost use Rattle.bundle.specs.Written.{bundle_bytes, is_written, write_answer};
 ghost use Rattle.face.specs.Face.{joined_by, unjoined_by, face_answer};
@@ -17,9 +19,7 @@ ghost use Rattle.grid.specs.Grid.{grid_of};
 ghost use Rattle.grid.specs.Rows.{grid_answer};
 ghost use Rattle.grid.specs.Opening.{open_answer, open_starts};
 ghost use Rattle.grid.specs.Setting.{set_answer, set_counts, set_starts};
-ghost use Rattle.counting.specs.Lists.{one};
 ghost use Rattle.answer.specs.Answer.{result_of};
-ghost use Rattle.cell.specs.Answer.{type_numbers, loop_numbers};
 ghost use Rattle.cell.specs.Level.{by_edge};
 ghost use Rattle.cases.specs.Answer.{case_answer};
 ghost use Rattle.booking.specs.Answer.{booking_answer};
@@ -29,18 +29,16 @@ ghost use Rattle.places.specs.Answer.{places_answer, places_area};
 ghost use Rattle.shading.specs.Answer.{shading_answer, shading_area};
 ghost use Rattle.nearest.specs.Answer.{nearest_answer};
 
+use answer::Refusal;
 use booking::Booking;
-use bundle::{BROKEN_ROW, Contents, HEAD_BYTES, Record, SHORT_ROW, Written};
+use bundle::{HEAD_BYTES, Lists, Record};
 use cases::Case;
 use cell::{Loop, LoopType};
 use face::{How, Join, Why};
-use flat::Traced;
-use grid::Checked;
-use mesh::{Looped, Meshed};
-use nearest::{Measured, Nearest};
+use flat::FlatGrid;
+use grid::Grid;
+use mesh::Mesh;
 use place::Place;
-use places::Placed;
-use shading::Shaded;
 
 // The words that hold any answer: CITTERNBLAZE_ANSWER_WORDS of the header.
 const ANSWER_WORDS: usize = 6;
@@ -54,12 +52,139 @@ fn put(answer: &mut [u64], numbers: &[u64]) -> usize
     if answer.len() < ANSWER_WORDS {
         return ANSWER_WORDS;
     }
-    let mut i = 0;
-    while i < numbers.len() {
-        answer[i] = numbers[i];
-        i += 1;
+    answer[..numbers.len()].copy_from_slice(numbers);
+    numbers.len()
+}
+
+// Puts the numbers of a refusal.
+fn put_refusal(answer: &mut [u64], refusal: Refusal) -> usize
+    ensures { Answers (refusal_numbers refusal) answer.old answer.new result }
+{
+    put(answer, &[refusal.row.number() as u64, refusal.place as u64])
+}
+
+// What a call answers where it refuses nothing.
+trait Value {
+    // Its numbers after the 0 of a result.
+    ghost values: { Self → List ℕ };
+
+    // Puts the 0 and its numbers.
+    fn put(self, answer: &mut [u64]) -> usize
+        ensures { Answers (result_of (values self)) answer.old answer.new result };
+}
+
+impl Value for () {
+    ghost values = { λ u. [] };
+
+    fn put(self, answer: &mut [u64]) -> usize {
+        put(answer, &[0])
     }
-    i
+}
+
+impl Value for u32 {
+    ghost values = { λ n. n ∷ [] };
+
+    fn put(self, answer: &mut [u64]) -> usize {
+        put(answer, &[0, self as u64])
+    }
+}
+
+impl Value for u64 {
+    ghost values = { λ n. n ∷ [] };
+
+    fn put(self, answer: &mut [u64]) -> usize {
+        put(answer, &[0, self])
+    }
+}
+
+impl Value for usize {
+    ghost values = { λ n. n ∷ [] };
+
+    fn put(self, answer: &mut [u64]) -> usize {
+        put(answer, &[0, self as u64])
+    }
+}
+
+impl Value for Mesh {
+    ghost values = { λ m. m.triangles ∷ m.splits ∷ [] };
+
+    fn put(self, answer: &mut [u64]) -> usize {
+        put(answer, &[0, self.triangles, self.splits as u64])
+    }
+}
+
+impl Value for Lists {
+    ghost values = { λ l. l.cells ∷ l.edges ∷ [] };
+
+    fn put(self, answer: &mut [u64]) -> usize {
+        put(answer, &[0, self.cells as u64, self.edges as u64])
+    }
+}
+
+impl Value for Record {
+    ghost values = { λ r. kind_number r.kind ∷ r.next ∷ [] };
+
+    fn put(self, answer: &mut [u64]) -> usize {
+        put(answer, &[0, self.kind.number() as u64, self.next as u64])
+    }
+}
+
+impl Value for Case {
+    ghost values = { case_values };
+
+    fn put(self, answer: &mut [u64]) -> usize {
+        put(answer, &[0, self.loops as u64, self.triangles as u64])
+    }
+}
+
+impl Value for Booking {
+    ghost values = { booking_values };
+
+    fn put(self, answer: &mut [u64]) -> usize {
+        let b = self;
+        put(
+            answer,
+            &[0, b.corners as u64, b.d1 as u64, b.d2 as u64, b.triangles],
+        )
+    }
+}
+
+impl Value for Loop {
+    ghost values = { loop_values };
+
+    fn put(self, answer: &mut [u64]) -> usize {
+        let p = self.p0 as u64;
+        let n = self.len as u64;
+        let b = self.normal as u64;
+        match self.kind {
+            LoopType::Contractible => put(answer, &[0, p, n, b, 0]),
+            LoopType::Corner(v) => put(answer, &[0, p, n, b, 1, v as u64]),
+            LoopType::Diagonal(v) => put(answer, &[0, p, n, b, 2, v as u64]),
+            LoopType::LowestCorner(v) => put(answer, &[0, p, n, b, 3, v as u64]),
+        }
+    }
+}
+
+// Nothing has no numbers.
+impl<T: Value> Value for Option<T> {
+    ghost values = { option_values T.values };
+
+    fn put(self, answer: &mut [u64]) -> usize {
+        match self {
+            Some(value) => value.put(answer),
+            None => put(answer, &[0]),
+        }
+    }
+}
+
+// Puts the numbers of what a call answers: those of its value, or of its refusal.
+fn put_answer<T: Value>(answer: &mut [u64], told: Result<T, Refusal>) -> usize
+    ensures { Answers (answer_numbers T.values told) answer.old answer.new result }
+{
+    match told {
+        Ok(value) => value.put(answer),
+        Err(refusal) => put_refusal(answer, refusal),
+    }
 }
 
 // Puts the numbers of a crossing that is joined to another.
@@ -117,10 +242,7 @@ pub extern "C" fn citternblaze_case(
 ) -> usize
     ensures { Answers (case_answer (by_edge (e01 ∷ e02 ∷ e03 ∷ e12 ∷ e13 ∷ e23 ∷ []))) answer.old answer.new result }
 {
-    match cases::look_up([e01, e02, e03, e12, e13, e23]) {
-        Case::Common(loops, triangles) => put(answer, &[0, loops as u64, triangles as u64]),
-        Case::Outside => put(answer, &[0]),
-    }
+    cases::look_up([e01, e02, e03, e12, e13, e23]).put(answer)
 }
 
 // The booking of a cell with these counts: 0, the corner triangles, the two smaller numbers left at the lowest node, and the triangles; 0 alone where the
@@ -137,10 +259,7 @@ pub extern "C" fn citternblaze_book(
 ) -> usize
     ensures { Answers (booking_answer (by_edge (e01 ∷ e02 ∷ e03 ∷ e12 ∷ e13 ∷ e23 ∷ []))) answer.old answer.new result }
 {
-    match booking::book([e01, e02, e03, e12, e13, e23]) {
-        Booking::Booked(t, d1, d2, n) => { put(answer, &[0, t as u64, d1 as u64, d2 as u64, n]) }
-        Booking::WalkIt => put(answer, &[0]),
-    }
+    booking::book([e01, e02, e03, e12, e13, e23]).put(answer)
 }
 
 // The grid check: 0 and the number of crossings, or the number and the place of a refusal.
@@ -154,10 +273,13 @@ pub extern "C" fn citternblaze_check(
 ) -> usize
     ensures { Answers (grid_answer (grid_of cells.now edges.now counts.now starts.now)) answer.old answer.new result }
 {
-    match grid::check(cells, edges, counts, starts) {
-        Checked::Crossings(n) => put(answer, &[0, n as u64]),
-        Checked::Refused(row, place) => put(answer, &[row as u64, place as u64]),
-    }
+    let grid = Grid {
+        cells,
+        edges,
+        counts,
+        starts,
+    };
+    put_answer(answer, grid::check(grid))
 }
 
 // The opening call: 0 and the number of crossings, and the starts are filled in; or the number and the place of a refusal, which leaves them as they
@@ -176,10 +298,7 @@ pub extern "C" fn citternblaze_open(
     if answer.len() < ANSWER_WORDS {
         return ANSWER_WORDS;
     }
-    match grid::open(cells, edges, counts, starts) {
-        Checked::Crossings(n) => put(answer, &[0, n as u64]),
-        Checked::Refused(row, place) => put(answer, &[row as u64, place as u64]),
-    }
+    put_answer(answer, grid::open(cells, edges, counts, starts))
 }
 
 // The setting call: 0 and the number of crossings, and the count and the starts are set; or the number and the place of a refusal, which leaves them
@@ -201,10 +320,8 @@ pub extern "C" fn citternblaze_set_count(
     if answer.len() < ANSWER_WORDS {
         return ANSWER_WORDS;
     }
-    match grid::set_count(cells, edges, counts, starts, edge, count) {
-        Checked::Crossings(n) => put(answer, &[0, n as u64]),
-        Checked::Refused(row, place) => put(answer, &[row as u64, place as u64]),
-    }
+    let told = grid::set_count(cells, edges, counts, starts, edge, count);
+    put_answer(answer, told)
 }
 
 // The mesh call: 0, the number of triangles and the number of splits, or the number and the place of a refusal, which leaves the area as it is.
@@ -223,10 +340,13 @@ pub extern "C" fn citternblaze_mesh(
     if answer.len() < ANSWER_WORDS {
         return ANSWER_WORDS;
     }
-    match mesh::mesh(cells, edges, counts, starts, area) {
-        Meshed::Triangles(n, splits) => put(answer, &[0, n, splits as u64]),
-        Meshed::Refused(row, place) => put(answer, &[row as u64, place as u64]),
-    }
+    let grid = Grid {
+        cells,
+        edges,
+        counts,
+        starts,
+    };
+    put_answer(answer, mesh::mesh(grid, area))
 }
 
 // One run's mesh, asked for by its number from 0: 0, the number of triangles and the number of splits, or the number and the place of a refusal, which
@@ -248,10 +368,13 @@ pub extern "C" fn citternblaze_mesh_run(
     if answer.len() < ANSWER_WORDS {
         return ANSWER_WORDS;
     }
-    match layers::mesh_run(cells, edges, counts, starts, cuts, run, area) {
-        Meshed::Triangles(n, splits) => put(answer, &[0, n, splits as u64]),
-        Meshed::Refused(row, place) => put(answer, &[row as u64, place as u64]),
-    }
+    let grid = Grid {
+        cells,
+        edges,
+        counts,
+        starts,
+    };
+    put_answer(answer, layers::mesh_run(grid, cuts, run, area))
 }
 
 // All runs' meshes joined, in the names of the whole: answers as the mesh call does, and leaves the area as it is where it refuses.
@@ -271,40 +394,13 @@ pub extern "C" fn citternblaze_mesh_joined(
     if answer.len() < ANSWER_WORDS {
         return ANSWER_WORDS;
     }
-    match layers::mesh_joined(cells, edges, counts, starts, cuts, area) {
-        Meshed::Triangles(n, splits) => put(answer, &[0, n, splits as u64]),
-        Meshed::Refused(row, place) => put(answer, &[row as u64, place as u64]),
-    }
-}
-
-fn number_of(b: bool) -> u64
-    ensures { result ≡ one b }
-{
-    if b { 1 } else { 0 }
-}
-
-// Puts the numbers of a loop that there is.
-fn put_found(answer: &mut [u64], p0: u32, many: u32, normal: bool, of: LoopType) -> usize
-    ensures { Answers (result_of (p0 ∷ many ∷ one normal ∷ type_numbers of)) answer.old answer.new result }
-{
-    let p = p0 as u64;
-    let n = many as u64;
-    let b = number_of(normal);
-    match of {
-        LoopType::Contractible => put(answer, &[0, p, n, b, 0]),
-        LoopType::Corner(v) => put(answer, &[0, p, n, b, 1, v as u64]),
-        LoopType::Diagonal(v) => put(answer, &[0, p, n, b, 2, v as u64]),
-        LoopType::LowestCorner(v) => put(answer, &[0, p, n, b, 3, v as u64]),
-    }
-}
-
-fn put_loop(answer: &mut [u64], l: Loop) -> usize
-    ensures { Answers (loop_numbers l) answer.old answer.new result }
-{
-    match l {
-        Loop::Found(p, n, normal, of) => put_found(answer, p, n, normal, of),
-        Loop::Nothing => put(answer, &[0]),
-    }
+    let grid = Grid {
+        cells,
+        edges,
+        counts,
+        starts,
+    };
+    put_answer(answer, layers::mesh_joined(grid, cuts, area))
 }
 
 // The loops call: 0, p0, the length, 1 for normal or 0, the type and its node; 0 alone where there is no such loop; or the number and the place of
@@ -321,10 +417,13 @@ pub extern "C" fn citternblaze_loops(
 ) -> usize
     ensures { Answers (loops_answer (grid_of cells.now edges.now counts.now starts.now) cell index) answer.old answer.new result }
 {
-    match mesh::loops(cells, edges, counts, starts, cell, index) {
-        Looped::Told(l) => put_loop(answer, l),
-        Looped::Refused(row, place) => put(answer, &[row as u64, place as u64]),
-    }
+    let grid = Grid {
+        cells,
+        edges,
+        counts,
+        starts,
+    };
+    put_answer(answer, mesh::loops(grid, cell, index))
 }
 
 // The places call: 0 and the number of points, or the number and the place of a refusal, which leaves the area as it is.
@@ -345,10 +444,13 @@ pub extern "C" fn citternblaze_places(
     if answer.len() < ANSWER_WORDS {
         return ANSWER_WORDS;
     }
-    match places::places(cells, edges, counts, starts, nodes, fractions, area) {
-        Placed::Points(n) => put(answer, &[0, n]),
-        Placed::Refused(row, place) => put(answer, &[row as u64, place as u64]),
-    }
+    let grid = Grid {
+        cells,
+        edges,
+        counts,
+        starts,
+    };
+    put_answer(answer, places::places(grid, nodes, fractions, area))
 }
 
 // The shading call: 0, or the number and the place of a refusal, which leaves the area as it is.
@@ -367,10 +469,13 @@ pub extern "C" fn citternblaze_shading(
     if answer.len() < ANSWER_WORDS {
         return ANSWER_WORDS;
     }
-    match shading::shade(cells, edges, counts, starts, area) {
-        Shaded::Written => put(answer, &[0]),
-        Shaded::Refused(row, place) => put(answer, &[row as u64, place as u64]),
-    }
+    let grid = Grid {
+        cells,
+        edges,
+        counts,
+        starts,
+    };
+    put_answer(answer, shading::shade(grid, area))
 }
 
 // The face call for a triangle of a flat grid: its answers are those of the face call.
@@ -402,10 +507,12 @@ pub extern "C" fn citternblaze_flat_check(
 ) -> usize
     ensures { Answers (flat_answer (flat_of triangles.now edges.now counts.now)) answer.old answer.new result }
 {
-    match flat::check(triangles, edges, counts) {
-        Checked::Crossings(n) => put(answer, &[0, n as u64]),
-        Checked::Refused(row, place) => put(answer, &[row as u64, place as u64]),
-    }
+    let grid = FlatGrid {
+        triangles,
+        edges,
+        counts,
+    };
+    put_answer(answer, flat::check(grid))
 }
 
 // The chains call: 0 and the number of words, or the number and the place of a refusal, which leaves the area as it is.
@@ -423,10 +530,12 @@ pub extern "C" fn citternblaze_flat_chains(
     if answer.len() < ANSWER_WORDS {
         return ANSWER_WORDS;
     }
-    match flat::chains(triangles, edges, counts, area) {
-        Traced::Words(n) => put(answer, &[0, n as u64]),
-        Traced::Refused(row, place) => put(answer, &[row as u64, place as u64]),
-    }
+    let grid = FlatGrid {
+        triangles,
+        edges,
+        counts,
+    };
+    put_answer(answer, flat::chains(grid, area))
 }
 
 // One call of the record reader: 0, the kind of the record at a start and the next start, or the number and the place of a refusal.
@@ -434,10 +543,7 @@ pub extern "C" fn citternblaze_flat_chains(
 pub extern "C" fn citternblaze_record(bytes: &[u8], start: usize, answer: &mut [u64]) -> usize
     ensures { Answers (record_answer bytes.now start) answer.old answer.new result }
 {
-    match bundle::record_at(bytes, start) {
-        Record::Whole(kind, next) => put(answer, &[0, kind as u64, next as u64]),
-        Record::Refused(row, place) => put(answer, &[row as u64, place as u64]),
-    }
+    put_answer(answer, bundle::record_at(bytes, start))
 }
 
 // The other: where in the bytes the body of the record at a start stands, and how many bytes it has; 0 and 0 where no record stands there.
@@ -446,11 +552,11 @@ pub extern "C" fn citternblaze_record_body(bytes: &[u8], start: usize, answer: &
     ensures { Answers (body_numbers bytes.now start) answer.old answer.new result }
 {
     match bundle::record_at(bytes, start) {
-        Record::Whole(kind, next) => {
+        Ok(record) => {
             let from = start + HEAD_BYTES;
-            put(answer, &[from as u64, (next - from) as u64])
+            put(answer, &[from as u64, (record.next - from) as u64])
         }
-        Record::Refused(row, place) => put(answer, &[0, 0]),
+        Err(_) => put(answer, &[0, 0]),
     }
 }
 
@@ -471,10 +577,7 @@ pub extern "C" fn citternblaze_bundle_read(
     if answer.len() < ANSWER_WORDS {
         return ANSWER_WORDS;
     }
-    match bundle::read(bytes, nodes, ends, counts) {
-        Contents::Lists(cells, edges) => put(answer, &[0, cells as u64, edges as u64]),
-        Contents::Refused(row, place) => put(answer, &[row as u64, place as u64]),
-    }
+    put_answer(answer, bundle::read(bytes, nodes, ends, counts))
 }
 
 // The bundle writer: 0 and the number of bytes written, or the number and the place of a refusal, which leaves the area as it is.
@@ -492,11 +595,7 @@ pub extern "C" fn citternblaze_bundle_write(
     if answer.len() < ANSWER_WORDS {
         return ANSWER_WORDS;
     }
-    match bundle::write(nodes, ends, counts, area) {
-        Written::Bytes(n) => put(answer, &[0, n as u64]),
-        Written::Unformed => put(answer, &[BROKEN_ROW as u64, 0]),
-        Written::Short(needed) => put(answer, &[SHORT_ROW as u64, needed as u64]),
-    }
+    put_answer(answer, bundle::write(nodes, ends, counts, area))
 }
 
 // The nearest call: 0, the number of the nearest point and the bits of its squared distance; 0 alone where the list has no point; or the number
@@ -512,12 +611,8 @@ pub extern "C" fn citternblaze_nearest(
     ensures { Answers (nearest_answer points.now (record { x = x; y = y; z = z })) answer.old answer.new result }
 {
     match nearest::nearest_point(points, Place { x, y, z }) {
-        Measured::Told(n) => {
-            match n {
-                Nearest::NoPoint => put(answer, &[0]),
-                Nearest::At(k, d) => put(answer, &[0, k as u64, f64::to_bits(d)]),
-            }
-        }
-        Measured::Refused(row, place) => put(answer, &[row as u64, place as u64]),
+        Ok(Some(n)) => put(answer, &[0, n.point as u64, f64::to_bits(n.distance)]),
+        Ok(None) => put(answer, &[0]),
+        Err(refusal) => put_refusal(answer, refusal),
     }
 }

@@ -1,9 +1,6 @@
-use Rattle.booking.specs.Answer.{booking_numbers}
-use Rattle.capi.proofs.Answers.{answers_told}
+use mathlib.Core.Path.{◌∙◌}
+use Rattle.capi.proofs.Answers.{answers_are, booking_read}
 use Rattle.capi.proofs.citternblaze_book.Goals as goal
 
-pub returns-in-Booked : goal.returns-in-Booked
-returns-in-Booked c = answers_told booking_numbers c.in-Booked.is c.book.ensures c.put.ensures
-
-pub returns-in-WalkIt : goal.returns-in-WalkIt
-returns-in-WalkIt c = answers_told booking_numbers c.in-WalkIt.is c.book.ensures c.put-in-WalkIt.ensures
+pub returns : goal.returns
+returns c = answers_are (booking_read _ ∙ c.book.ensures) c.put.ensures

@@ -1,11 +1,5 @@
-use Rattle.grid.specs.Check.{check_numbers}
-use Rattle.capi.proofs.Answers.{told_reads, answers_are, answers_told}
-use Rattle.grid.proofs.Claims.{never_empty}
-use Rattle.answer.proofs.Answer.{refused_numbers}
+use Rattle.capi.proofs.Answers.{answers_are}
 use Rattle.capi.proofs.citternblaze_check.Goals as goal
 
-pub returns-in-Crossings : goal.returns-in-Crossings
-returns-in-Crossings c = answers_told check_numbers c.in-Crossings.is c.check.ensures c.put.ensures
-
-pub returns-in-Refused : goal.returns-in-Refused
-returns-in-Refused c = answers_are (refused_numbers _ (never_empty _) _ _ (told_reads check_numbers c.in-Refused.is c.check.ensures)) c.put-in-Refused.ensures
+pub returns : goal.returns
+returns c = answers_are c.check.ensures c.put_answer.ensures
