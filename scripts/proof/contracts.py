@@ -46,27 +46,37 @@ def faults(head, name, public):
     return told
 
 
+def of_traits(text):
+    """Where the blocks stand that implement a trait for a type."""
+    return [
+        (m.start(), text.find("\n}", m.start()))
+        for m in re.finditer(r"^impl\b[^{;]*\bfor\b[^{;]*\{", text, flags=re.M)
+    ]
+
+
 def look(text):
     text = re.sub(r"//[^\n]*", "", text)
-    told = []
+    told, kept = [], of_traits(text)
     for m in re.finditer(r"\b(pub )?(?:extern \"C\" )?fn (\w+)", text):
-        if m.group(2) != "main":
+        if m.group(2) != "main" and not any(start < m.start() < end for start, end in kept):
             told += faults(head_of(text[m.start():]), m.group(2), bool(m.group(1)))
     return told
 
 
 GOOD = 'pub fn a(x: &mut [u8; 4]) -> u8\n    ensures { get_or x.new 0 0 ≡ result }\n{\n    1\n}\n'
+OF_TRAIT = "impl Keys for List {\n    fn key(&self) -> usize {\n        1\n    }\n}\n"
 BAD = {
     "a public requires": GOOD.replace("    ensures", "    requires { length x.old ≡ 4 }\n    ensures"),
     "no ensures": "fn a(x: u8) -> u8 {\n    x\n}\n",
     "lent memory left open": GOOD.replace("get_or x.new 0 0 ≡ ", "0 ≡ "),
     "of lent memory only what it was": GOOD.replace("x.new", "x.old"),
     "lent memory without a contract": "fn a(x: &mut [u8]) {\n}\n",
+    "a method without a contract": OF_TRAIT.replace("Keys for ", ""),
 }
 
 
 def self_test():
-    told = ["a whole contract is taken for one that lacks"] if look(GOOD) else []
+    told = ["a whole contract is taken for one that lacks"] if look(GOOD) or look(OF_TRAIT) else []
     return told + [f"not found: {name}" for name, text in BAD.items() if not look(text)]
 
 
