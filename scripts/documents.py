@@ -206,8 +206,8 @@ def check_crates(texts, repository):
 
 
 def statements(file, text):
-    """The closed statements of a file of specs/: types without a parameter, and such records in files of claims."""
-    yield from re.findall(r"(?m)^abbrev pub ([A-Z]\w*) : Type \d", text)
+    """The closed statements of a file of specs/: types without a parameter, but for those of answers, and such records in files of claims."""
+    yield from re.findall(r"(?m)^abbrev pub ([A-Z]\w*) : Type \d.*\n(?!\1 = Result )", text)
     if pathlib.PurePath(file).stem.endswith("Claims"):
         yield from re.findall(r"(?m)^pub record ([A-Z]\w*) : Type \d", text)
 

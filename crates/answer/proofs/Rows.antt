@@ -11,7 +11,8 @@ use lib.Dec.{eqb}
 use lib.ListN.{length}
 use borrow.Author.Tests.{eqb-true, eqb-false, le-ltb, lt-ltb, not-true}
 use Rattle.counting.specs.Pick.{pick}
-use Rattle.counting.specs.Search.{first, some, found}
+use Rattle.counting.specs.Search.{first, some}
+use Rattle.counting.specs.work.Search.{found}
 use Rattle.counting.specs.Lists.{seek}
 use Rattle.counting.proofs.Bools.{and_left, and_right}
 use Rattle.counting.proofs.Search.{first_at, first_below, first_is, none_first, some_first, some_none, found_first, found_none}

@@ -12,7 +12,8 @@ use Rattle.answer.specs.Answer.{result_of, refusal}
 use Rattle.counting.specs.Pick.{pick}
 use Rattle.counting.proofs.Bools.{clash, and_left, and_right, not_clash}
 use Rattle.bundle.specs.Record.{cell_kind, edge_kind, end_kind, wide_kind, look_kind, kind_number, word_size, length_bytes, head_bytes, cell_length, edge_length, end_length, wide_length, look_length, word, length_of, kind_at, next_record, count_at, may_have, is_record, record_answer, broken_row, body, body_size, body_start}
-use Rattle.bundle.specs.Bundle.{cell_section, edge_section, look_section, end_section, section_of, section_number}
+use Rattle.bundle.specs.Bundle.{cell_section, edge_section, look_section, end_section, section_of}
+use Rattle.bundle.specs.work.Kinds.{section_number}
 use Rattle.bundle.specs.declared.kinds.Kind.{Kind}
 use Rattle.bundle.specs.declared.kinds.Kind.TheVariants.{Cell, Edge, End, Wide, Look}
 use Rattle.bundle.specs.declared.kinds.Section.{Section}

@@ -7,8 +7,6 @@ use Rattle.counting.specs.Pick.{pick}
 use Rattle.counting.specs.Lists.{over, values}
 use Rattle.counting.specs.Search.{first, last, some}
 use Rattle.bundle.specs.Record.{cell_kind, edge_kind, end_kind, wide_kind, look_kind, broken_row, word_size, count_place, word, kind_at, next_record, is_record, body}
-use Rattle.bundle.specs.declared.kinds.Section.{Section}
-use Rattle.bundle.specs.declared.kinds.Section.TheVariants.{Cells, Edges, Looks, End}
 use Rattle.bundle.specs.declared.reader.Lists.{Lists}
 
 -- the rows of the table of refusals that speak of short lists, and of looks for no edge (02, W7)
@@ -30,13 +28,6 @@ look_section = 3
 
 abbrev pub end_section : ℕ
 end_section = 4
-
--- the number of a section in that order
-abbrev pub section_number : Section → ℕ
-section_number Cells = cell_section
-section_number Edges = edge_section
-section_number Looks = look_section
-section_number End = end_section
 
 -- the section that records of a kind stand in; 0 where the number is no kind
 unfoldable pub section_of : ℕ → ℕ

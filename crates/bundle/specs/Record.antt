@@ -1,12 +1,11 @@
 -- One record of a bundle (01): what stands at a start, and its body. Bytes are numbers below 256, and a number of 16 bits has its low byte first.
-use Rattle.std.specs.Prelude.{ℕ, ◌+◌, ◌-◌, ◌*◌, ◌≡◌, Bool, true, ◌&&◌, List, [], ◌∷◌, Result, MatchResult, ltb, leb, eqb, length, get_or, take, drop}
+use Rattle.std.specs.Prelude.{ℕ, ◌+◌, ◌-◌, ◌*◌, Bool, true, ◌&&◌, List, [], ◌∷◌, Result, ltb, leb, eqb, length, get_or, take, drop}
 use Rattle.answer.specs.Answer.{result_of, refusal}
 use Rattle.answer.specs.Refusal.{answer_numbers}
 use Rattle.answer.specs.declared.Refusal.{Refusal}
 use Rattle.counting.specs.Pick.{pick}
 use Rattle.bundle.specs.declared.kinds.Kind.{Kind}
 use Rattle.bundle.specs.declared.kinds.Kind.TheVariants.{Cell, Edge, End, Wide, Look}
-use Rattle.bundle.specs.declared.kinds.UnknownKind.{UnknownKind}
 use Rattle.bundle.specs.declared.records.Record.{Record}
 
 -- the values of a byte
@@ -71,10 +70,6 @@ look_length = 8
 -- the length that a record of a kind has; 0 where the number is no kind
 unfoldable pub length_of : ℕ → ℕ
 length_of kind = pick (eqb kind cell_kind) cell_length (pick (eqb kind edge_kind) edge_length (pick (eqb kind end_kind) end_length (pick (eqb kind wide_kind) wide_length (pick (eqb kind look_kind) look_length 0))))
-
--- the result is the kind with this number, or the number, which no kind has
-abbrev pub Names : ℕ → Result Kind UnknownKind → Type 0
-Names number r = MatchResult r (λ kind. kind_number kind ≡ number) (λ e. (e.0 ≡ number) × (length_of number ≡ 0))
 
 -- the number of 16 bits at a place
 abbrev pub word : List ℕ → ℕ → ℕ

@@ -2,3 +2,4 @@
 pub mod Record
 pub mod Needed
 pub mod Looked
+pub mod Kinds

@@ -1,7 +1,9 @@
 // The kinds of records, and the sections of a bundle that they stand in.
 ghost use Rattle.std.specs.Prelude.{◌≡◌};
-ghost use Rattle.bundle.specs.Record.{length_of, kind_number, Names};
-ghost use Rattle.bundle.specs.Bundle.{section_of, section_number};
+ghost use Rattle.bundle.specs.Record.{length_of, kind_number};
+ghost use Rattle.bundle.specs.work.Kinds.{Names};
+ghost use Rattle.bundle.specs.Bundle.{section_of};
+ghost use Rattle.bundle.specs.work.Kinds.{section_number};
 
 // The kinds, by their numbers. An edge is wide where a byte does not hold its count; a look is a later one at an edge, with a new count.
 #[derive(Clone, Copy, Debug, PartialEq, Eq)]

@@ -2,7 +2,7 @@
 // their pairs' keys (`trees`), with four branches to a look: a key has 32 bits, so that an edge finds the last look of a block that is for it in 17
 // steps at most, whatever the pairs are.
 ghost use Rattle.std.specs.Prelude.{◌≡◌, ◌+◌, ◌-◌, ◌<◌, ◌≤◌, min, length, true};
-ghost use Rattle.counting.specs.Search.{found};
+ghost use Rattle.counting.specs.work.Search.{found};
 ghost use Rattle.counting.specs.Stored.{filled};
 ghost use Rattle.bundle.specs.Record.{next_record, is_record};
 ghost use Rattle.bundle.specs.Bundle.{edges, looks, is_stray, count_after};

@@ -3,7 +3,8 @@ ghost use Rattle.std.specs.Prelude.{◌≡◌, ◌+◌, ◌<◌, length};
 ghost use Rattle.counting.specs.work.Stored.{Stored};
 ghost use Rattle.counting.specs.Stored.{filled};
 ghost use Rattle.bundle.specs.Record.{count_place, word};
-ghost use Rattle.bundle.specs.Bundle.{section_number, record_start, run, leading_words, edges_from, edges, looks_from, bundle_answer, read_answer, nodes_of, ends_of, count_after, written_over, nodes_left, ends_left, counts_left, contents_numbers};
+ghost use Rattle.bundle.specs.Bundle.{record_start, run, leading_words, edges_from, edges, looks_from, bundle_answer, read_answer, nodes_of, ends_of, count_after, written_over, nodes_left, ends_left, counts_left, contents_numbers};
+ghost use Rattle.bundle.specs.work.Kinds.{section_number};
 ghost use Rattle.bundle.specs.work.Needed.{next_in, WordsLent, CellsLent, EdgesLent, LaidOut};
 
 use crate::kinds::Section;

@@ -5,7 +5,8 @@ ghost use Rattle.std.specs.Prelude.{◌≡◌, ◌<◌, IfSome};
 ghost use Rattle.cell.specs.Level.{by_edge};
 ghost use Rattle.cases.specs.claims.Cases.{entries};
 ghost use Rattle.cases.specs.Answer.{case_numbers, case_answer};
-ghost use Rattle.cases.specs.claims.Tally.{find_entry, place_of};
+ghost use Rattle.cases.specs.claims.Tally.{find_entry};
+ghost use Rattle.cases.specs.work.Tally.{place_of};
 
 use cell::DIGIT_LIMIT;
 

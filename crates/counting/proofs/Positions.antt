@@ -5,7 +5,7 @@ use Rattle.std.proofs.Common.{refl, arith}
 use Rattle.std.proofs.lemmas.List.Sums.{passes_at_first, fails_before_first}
 use lib.ListN.{get_or}
 use borrow.Author.Tests.{ltb-true, ltb-false}
-use Rattle.counting.specs.Search.{found}
+use Rattle.counting.specs.work.Search.{found}
 use Rattle.counting.proofs.Search.{found_hit, found_end}
 
 pub position_found : {A : Type 0} (p : A → Bool) (xs : List A) (d : A) → position p xs ≡ found (λ i. p (get_or xs i d)) (length xs)

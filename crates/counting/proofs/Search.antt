@@ -11,7 +11,8 @@ use lib.Dec.{eqb, ltb}
 use borrow.Author.Tests.{lt-ltb, le-ltb, ltb-true, ltb-false}
 use Rattle.counting.specs.Pick.{pick}
 use Rattle.counting.specs.Lists.{one, total, seek}
-use Rattle.counting.specs.Search.{first, last, some, every, count, found}
+use Rattle.counting.specs.Search.{first, last, some, every, count}
+use Rattle.counting.specs.work.Search.{found}
 use Rattle.counting.proofs.Below.{trichotomy}
 use Rattle.counting.proofs.Bools.{not_clash, clash, and_true, and_left, and_right, holds_or, one_le}
 use Rattle.counting.proofs.Range.{total_ext, total_le, total_mono, total_snoc, total_swap, total_times, total_at}

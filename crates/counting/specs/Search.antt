@@ -1,5 +1,5 @@
 -- Numbers that pass a test: the least, the last, whether some or every one does, how many do.
-use Rattle.std.specs.Prelude.{ℕ, zero, suc, ◌+◌, Bool, true, false, ◌&&◌, Option, Some, None, ltb}
+use Rattle.std.specs.Prelude.{ℕ, zero, suc, ◌+◌, Bool, true, false, ◌&&◌}
 use Rattle.counting.specs.Pick.{pick}
 use Rattle.counting.specs.Lists.{one, seek}
 
@@ -28,7 +28,3 @@ module _ (t : ℕ → Bool) where
   unfoldable pub count : ℕ → ℕ
   count zero = 0
   count (suc n) = count n + one (t n)
-
-  -- the least number below n that passes, where one does
-  unfoldable pub found : ℕ → Option ℕ
-  found n = pick (ltb (first n) n) (Some (first n)) None

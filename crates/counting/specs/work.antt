@@ -1,3 +1,4 @@
 -- What only contracts of parts and proofs cite.
 pub mod Stored
 pub mod Tables
+pub mod Search

@@ -6,7 +6,8 @@ use mathlib.Core.Bool.{false}
 use mathlib.Core.List.{List, [], ◌∷◌}
 use native.Mathlib.Omega.{arith}
 use lib.ListN.{length}
-use Rattle.counting.specs.Search.{first, found}
+use Rattle.counting.specs.Search.{first}
+use Rattle.counting.specs.work.Search.{found}
 use Rattle.answer.specs.Answer.{refusal, result_of}
 use Rattle.answer.specs.Rows.{answer_of, whole}
 use Rattle.answer.specs.claims.Faults.{row_at}

@@ -17,7 +17,8 @@ use borrow.Author.Tests.{eq-eqb, eqb-true, le-ltb, lt-ltb, ne_eqb}
 use Rattle.counting.specs.Pick.{pick}
 use Rattle.counting.specs.Lists.{over, values}
 use Rattle.counting.specs.Stored.{filled}
-use Rattle.counting.specs.Search.{count, every, first, found, last, some}
+use Rattle.counting.specs.Search.{count, every, first, last, some}
+use Rattle.counting.specs.work.Search.{found}
 use Rattle.counting.proofs.Search.{AtMostOne, count_blocks, count_ext, count_none, count_plus, count_two, count_zero, first_blocks, first_ext, first_none, last_is, last_le, some_ext, some_last}
 use Rattle.counting.proofs.Stored.{sets_more}
 use Rattle.slots.specs.Slots.{lower, upper}

@@ -8,7 +8,8 @@ use native.Mathlib.Omega.{arith}
 use lib.Dec.{eqb}
 use lib.ListN.{get_or, length, length-replicate, replicate}
 use borrow.Author.Tests.{eqb-false}
-use Rattle.counting.specs.Search.{first, found, some}
+use Rattle.counting.specs.Search.{first, some}
+use Rattle.counting.specs.work.Search.{found}
 use Rattle.counting.specs.Stored.{filled}
 use Rattle.counting.proofs.Bools.{eqb_comm}
 use Rattle.counting.proofs.Tables.{filled_table, zeros}

@@ -1,6 +1,6 @@
 // The check of a flat grid, row by row.
 ghost use Rattle.std.specs.Prelude.{◌≡◌, ℕ, ◌-◌, ◌<◌, ◌≤◌, eqb, length, get_or, replicate, unwrap_or};
-ghost use Rattle.counting.specs.Search.{found};
+ghost use Rattle.counting.specs.work.Search.{found};
 ghost use Rattle.counting.specs.Stored.{filled};
 ghost use Rattle.grid.specs.Check.{check_numbers};
 ghost use Rattle.grid.specs.work.Work.{WhereAccepted};

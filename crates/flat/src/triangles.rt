@@ -2,7 +2,7 @@
 ghost use Rattle.std.specs.Prelude.{◌≡◌, ℕ, ◌+◌, ◌*◌, ◌<◌, ◌≤◌, eqb, not, length, get_or, position};
 ghost use Rattle.std.proofs.lemmas.List.Edits.{sets};
 ghost use Rattle.counting.specs.Lists.{values};
-ghost use Rattle.counting.specs.Search.{found};
+ghost use Rattle.counting.specs.work.Search.{found};
 ghost use Rattle.counting.specs.Stored.{filled};
 ghost use Rattle.flat.specs.FlatGrid.{most_flat_triangles, triangles_in, node};
 ghost use Rattle.flat.specs.Rows.{bad_length, bad_triangle, repeats, crowded};

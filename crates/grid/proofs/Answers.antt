@@ -8,7 +8,7 @@ use native.Mathlib.Omega.{arith}
 use lib.Dec.{eqb, ltb}
 use lib.ListN.{length}
 use borrow.Author.Tests.{eqb-false, eqb-true, ltb-false, not-false}
-use Rattle.counting.specs.Search.{found}
+use Rattle.counting.specs.work.Search.{found}
 use Rattle.counting.proofs.Bools.{or_none}
 use Rattle.answer.specs.Answer.{refusal, result_of}
 use Rattle.answer.specs.Rows.{answer_of, whole}

@@ -5,7 +5,8 @@ use mathlib.Core.Path.{◌∙◌, ◌≡◌, ap, sym}
 use mathlib.Core.Bool.{Bool}
 use native.Mathlib.Nat.{div-lt_iff_lt-mul, mul-div_cancel_left, mul_comm}
 use native.Mathlib.Omega.{arith}
-use Rattle.counting.specs.Search.{first, found}
+use Rattle.counting.specs.Search.{first}
+use Rattle.counting.specs.work.Search.{found}
 use Rattle.counting.proofs.Search.{first_found, found_first, found_none, none_found}
 
 module _ (t u : ℕ → Bool) (n : ℕ) where

@@ -15,6 +15,7 @@ use Rattle.counting.proofs.Pack.{pre_changed, pre_kept, pre_le, pre_next}
 use Rattle.grid.specs.Grid.{count_of, crossings, start}
 use Rattle.slots.specs.Limits.{most_crossings}
 use Rattle.grid.specs.Rows.{too_many}
+use Rattle.grid.specs.work.Shared.{capped}
 
 module _ (counts : List ℕ) where
   pub start_zero : start counts 0 ≡ 0
@@ -28,6 +29,14 @@ module _ (counts : List ℕ) where
   pub start_mono : (d e : ℕ) → d ≤ e → start counts d ≤ start counts e
   unfolding start
   start_mono d e h = ⊎_elim (λ (q : d ≡ e). rw q (omega arith)) (λ (l : d < e). omega (arith, pre_le (count_of counts) 0 d e l)) (eq-or-lt_of_le h)
+
+  pub capped_over : most_crossings < crossings counts → most_crossings + 1 ≡ capped counts
+  unfolding capped
+  capped_over h = rw (lt-ltb most_crossings (crossings counts) h)
+
+  pub capped_is : crossings counts ≤ most_crossings → crossings counts ≡ capped counts
+  unfolding capped
+  capped_is h = rw (le-ltb most_crossings (crossings counts) h)
 
   -- row 10
   pub too_many_is : most_crossings < crossings counts → too_many counts ≡ true

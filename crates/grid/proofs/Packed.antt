@@ -12,7 +12,8 @@ use lib.Dec.{eqb, leb, ltb}
 use lib.ListN.{get_or, length}
 use borrow.Author.Tests.{eq-eqb, eqb-false, eqb-true, le-leb, le-ltb, leb-false, lt-leb, ltb-false, ne_eqb}
 use Rattle.counting.specs.Pick.{pick}
-use Rattle.counting.specs.Search.{every, found, last, some}
+use Rattle.counting.specs.Search.{every, last, some}
+use Rattle.counting.specs.work.Search.{found}
 use Rattle.counting.proofs.Below.{rising, rising_once}
 use Rattle.counting.proofs.Bools.{holds_or, or_none, or_right}
 use Rattle.counting.proofs.Search.{every_is, first_none, found_none, is_every, none_some, some_ext, some_found, some_last, some_none}

@@ -11,7 +11,8 @@ use lib.Dec.{eqb, leb, ltb}
 use lib.ListN.{get_or, length}
 use borrow.Author.Tests.{eq-eqb, eqb-false, eqb-true, le-leb, le-ltb, lt-leb, lt-ltb, ltb-false, ltb-true, ne_eqb, not-false}
 use Rattle.counting.specs.Pick.{pick}
-use Rattle.counting.specs.Search.{first, found, last, some}
+use Rattle.counting.specs.Search.{first, last, some}
+use Rattle.counting.specs.work.Search.{found}
 use Rattle.counting.proofs.Bools.{bool_same, holds_or, not_clash}
 use Rattle.counting.proofs.Search.{first_at, first_below, first_blocks, first_ext, first_found, first_is, first_le, first_none, last_above, last_at, last_is, last_le, none_first, none_found, some_blocks, some_ext, some_first, some_found, some_last, some_none}
 use Rattle.grid.specs.Grid.{Grid, cell_count, has_edge, high, is_edge, low}

@@ -8,7 +8,7 @@ use native.Mathlib.Omega.{arith}
 use lib.Dec.{eqb}
 use lib.ListN.{get_or, length, length-replicate, replicate}
 use borrow.Author.Tests.{eqb-false}
-use Rattle.counting.specs.Search.{found}
+use Rattle.counting.specs.work.Search.{found}
 use Rattle.counting.proofs.Tables.{zeros}
 use Rattle.counting.proofs.Search.{first_none, found_none, some_none}
 use Rattle.grid.specs.Grid.{Before, Grid, cell_count, high, low}

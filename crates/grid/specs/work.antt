@@ -7,3 +7,4 @@ pub mod Seen
 pub mod Runs
 pub mod Work
 pub mod Held
+pub mod Lent

@@ -1,6 +1,6 @@
 // Rows 1, 3, 4 and 5: the cells.
 ghost use Rattle.std.specs.Prelude.{ℕ, slice_index, ◌≡◌, ◌+◌, ◌*◌, ◌/◌, ◌%◌, ◌<◌, ◌≤◌, None};
-ghost use Rattle.counting.specs.Search.{found};
+ghost use Rattle.counting.specs.work.Search.{found};
 ghost use Rattle.slots.specs.Limits.{most_cells};
 ghost use Rattle.grid.specs.Grid.{cell_count, node};
 ghost use Rattle.grid.specs.Rows.{bad_length, bad_cell, repeats, crowded};

@@ -1,8 +1,9 @@
 // Rows 2, 6, 18, 7 and 8: the edges.
 ghost use Rattle.std.specs.Prelude.{◌≡◌, ◌+◌, ◌*◌, ◌/◌, ◌<◌, ◌≤◌, length, None};
-ghost use Rattle.counting.specs.Search.{found, some};
+ghost use Rattle.counting.specs.Search.{some};
+ghost use Rattle.counting.specs.work.Search.{found};
 ghost use Rattle.grid.specs.Grid.{cell_count};
-ghost use Rattle.grid.specs.Lent.{rebuilt};
+ghost use Rattle.grid.specs.work.Lent.{rebuilt};
 ghost use Rattle.grid.specs.Rows.{bad_numbers, bad_start, bad_lists, bad_edge, bad_count, unused};
 ghost use Rattle.grid.specs.work.Runs.{Talliable, Tallied};
 ghost use Rattle.grid.specs.work.Shared.{edge_key};

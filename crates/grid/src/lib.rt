@@ -6,12 +6,14 @@ ghost use Rattle.grid.specs.Grid.{grid_of, cell_count, crossings};
 ghost use Rattle.slots.specs.Limits.{most_cells, most_slots};
 ghost use Rattle.slots.specs.work.Limits.{most_edges};
 ghost use Rattle.grid.specs.Rows.{grid_answer, repeats, too_many};
-ghost use Rattle.counting.specs.Search.{found};
+ghost use Rattle.counting.specs.work.Search.{found};
 ghost use Rattle.grid.specs.Check.{check_numbers};
-ghost use Rattle.grid.specs.Lent.{lent, rebuilt};
+ghost use Rattle.grid.specs.Lent.{lent};
+ghost use Rattle.grid.specs.work.Lent.{rebuilt};
 ghost use Rattle.grid.specs.work.Held.{ComparableBy, EdgingBy, LowChained, SidingBy, Sized};
 ghost use Rattle.answer.specs.Answer.{result_of};
 ghost use Rattle.answer.specs.Rows.{whole, answer_of};
+ghost use Rattle.grid.specs.work.Shared.{capped};
 ghost use Rattle.grid.specs.work.Tables.{Laid};
 ghost use Rattle.grid.specs.Opening.{open_answer, open_starts};
 ghost use Rattle.grid.specs.Setting.{set_answer, set_counts, set_starts};
@@ -34,6 +36,8 @@ mod tables;
 pub use edges::{edge_order, row_18};
 pub use shared::{earlier_places, edge_places};
 pub use slots::{HIGHEST_NODE, MOST_CELLS, MOST_COUNT, MOST_CROSSINGS, MOST_EDGES, MOST_SLOTS};
+
+const TOO_MANY: u32 = MOST_CROSSINGS + 1;
 
 const NODES: usize = HIGHEST_NODE + 1;
 
@@ -61,6 +65,21 @@ pub struct Grid<'a> {
     pub edges: &'a [u16],
     pub counts: &'a [u16],
     pub starts: &'a [u32],
+}
+
+// The sum of the counts; 65,536 where it is more than 65,535.
+// Stays: answers every input by a number, beside `count_crossings`, which can refuse: a call that could not fail still cannot (DECISIONS 14.1).
+pub fn total(counts: &[u16]) -> u32
+    ensures { result ≡ capped counts.now }
+{
+    let mut sum: u32 = 0;
+    for e in 0..counts.len() {
+        sum += counts[e] as u32;
+        if MOST_CROSSINGS < sum {
+            return TOO_MANY;
+        }
+    }
+    sum
 }
 
 // Row 10, or the number of crossings.

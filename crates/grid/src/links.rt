@@ -1,9 +1,10 @@
 // Row 9: the cells of each edge, linked through faces that contain it.
 ghost use Rattle.std.specs.Prelude.{◌≡◌, ◌≢◌, ◌-◌, ◌*◌, ◌/◌, ◌<◌, length};
-ghost use Rattle.counting.specs.Search.{found, some};
+ghost use Rattle.counting.specs.Search.{some};
+ghost use Rattle.counting.specs.work.Search.{found};
 ghost use Rattle.slots.specs.claims.Slots.{rank_in, other_slot};
 ghost use Rattle.slots.specs.Slots.{second_slot};
-ghost use Rattle.grid.specs.Lent.{rebuilt};
+ghost use Rattle.grid.specs.work.Lent.{rebuilt};
 ghost use Rattle.grid.specs.Rows.{split};
 ghost use Rattle.grid.specs.work.Work.{OnSlot, Spreadable, Spreads, missing, Reached, Splitting, Linkable};
 

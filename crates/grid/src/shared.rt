@@ -1,7 +1,7 @@
 // What the check of a flat grid shares with that of a grid, besides rows 6, 18 and 10: the places of equal keys, and the edges that have a key. Both are
 // found by trees (`trees`), in a few steps for each key and edge, whatever the keys are.
 ghost use Rattle.std.specs.Prelude.{◌≡◌, ◌/◌, min, length};
-ghost use Rattle.counting.specs.Search.{found};
+ghost use Rattle.counting.specs.work.Search.{found};
 ghost use Rattle.counting.specs.Stored.{filled};
 ghost use Rattle.grid.specs.work.Shared.{earlier_at, key_room, keyless, placed_at};
 

@@ -12,7 +12,8 @@ use lib.ListN.{length, get_or}
 use lib.Ieee.{Float, nan}
 use borrow.Author.Tests.{eqb-true, eqb-false, eq-eqb, ne_eqb, not-true, not-false}
 use Rattle.answer.specs.Answer.{result_of, refusal}
-use Rattle.counting.specs.Search.{first, found}
+use Rattle.counting.specs.Search.{first}
+use Rattle.counting.specs.work.Search.{found}
 use Rattle.counting.proofs.Positions.{position_found}
 use Rattle.counting.proofs.Bools.{clash, holds_or}
 use Rattle.counting.proofs.Search.{first_is, first_below, found_first, found_none}

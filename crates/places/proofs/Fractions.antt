@@ -9,7 +9,7 @@ use native.Mathlib.Omega.{arith}
 use lib.ListN.{length, get_or}
 use lib.Ieee.{Float, nan, lt}
 use borrow.Author.Tests.{lt-ltb}
-use Rattle.counting.specs.Search.{found}
+use Rattle.counting.specs.work.Search.{found}
 use Rattle.counting.proofs.Search.{first_is, first_below, found_first, found_none, found_hit, found_end}
 use Rattle.counting.proofs.Pack.{col_pack, pre_le, pack_lt}
 use Rattle.grid.specs.Grid.{count_of, start, crossings}

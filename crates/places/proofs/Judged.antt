@@ -12,7 +12,8 @@ use borrow.Author.Tests.{lt-ltb, le-ltb, eq-eqb, ne_eqb}
 use Rattle.answer.specs.Answer.{result_of, refusal}
 use Rattle.answer.proofs.Rows.{row_passes, row_refuses, row_found, row_clear, rows_end, whole_fault, whole_fine}
 use Rattle.counting.specs.Pick.{pick}
-use Rattle.counting.specs.Search.{found, last}
+use Rattle.counting.specs.Search.{last}
+use Rattle.counting.specs.work.Search.{found}
 use Rattle.slots.specs.Limits.{highest_node}
 use Rattle.grid.specs.Grid.{crossings}
 use Rattle.place.specs.Place.{coordinates}

@@ -1,6 +1,7 @@
 // Rows 15, 16 and 17: the lists' lengths, the numbers of the nodes' places, and the fractions.
 ghost use Rattle.std.specs.Prelude.{◌≡◌, ◌+◌, ◌*◌, ◌/◌, ◌≤◌, ◌<◌, length};
-ghost use Rattle.counting.specs.Search.{found, last};
+ghost use Rattle.counting.specs.Search.{last};
+ghost use Rattle.counting.specs.work.Search.{found};
 ghost use Rattle.grid.specs.Grid.{crossings};
 ghost use Rattle.place.specs.Place.{coordinates};
 ghost use Rattle.places.specs.Rows.{bad_fraction_at, bad_fraction};

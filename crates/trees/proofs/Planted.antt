@@ -12,7 +12,8 @@ use lib.ListN.{length, get_or, set, take, length-set}
 use lib.Seq.{ext_get_or, get_or-take, get_or-set_same, get_or-set_other}
 use borrow.Author.Tests.{eq-eqb, ne_eqb, lt-ltb, le-ltb}
 use Rattle.counting.specs.Pick.{pick}
-use Rattle.counting.specs.Search.{last, found}
+use Rattle.counting.specs.Search.{last}
+use Rattle.counting.specs.work.Search.{found}
 use Rattle.counting.specs.Stored.{filled}
 use Rattle.counting.proofs.Search.{last_none, last_hit, last_miss, seek_end, seek_hit, seek_miss, seek_start, some_last, last_ext, some_ext}
 use Rattle.counting.proofs.Stored.{filled_at, filled_beyond, length_filled}

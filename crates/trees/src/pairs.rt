@@ -1,6 +1,6 @@
 // Pairs of numbers that have a key.
 ghost use Rattle.std.specs.Prelude.{◌≡◌, ◌+◌, ◌*◌, ◌/◌, ◌<◌, ◌≤◌, length};
-ghost use Rattle.counting.specs.Search.{found};
+ghost use Rattle.counting.specs.work.Search.{found};
 ghost use Rattle.counting.specs.Stored.{filled};
 ghost use Rattle.trees.specs.work.Keys.{key_in, pair_in, pair_lacks, paired_at};
 ghost use Rattle.trees.specs.work.Planted.{key_branches, Growing, PairsLent, PairsMarked, Topped, source_at, spread_at};

@@ -1,5 +1,5 @@
 -- The triangles of cells that are tallied by entry: entry n of the list `cells` says how many cells have the table's entry n.
-use Rattle.std.specs.Prelude.{ℕ, ◌+◌, ◌*◌, Option, Some, None, List, get_or, length}
+use Rattle.std.specs.Prelude.{ℕ, ◌+◌, ◌*◌, List, get_or, length}
 use Rattle.counting.specs.Pick.{pick}
 use Rattle.cell.specs.Common.{is_common}
 use Rattle.cases.specs.claims.Cases.{entries, entry_of}
@@ -11,11 +11,6 @@ use Rattle.cases.specs.claims.Table.{table}
 -- the number of a cell's entry; the number of entries where it has none
 unfoldable pub find_entry : (ℕ → ℕ) → ℕ
 find_entry w = pick (is_common w) (entry_of w) entries
-
--- the number that is found, or that of entries
-abbrev pub place_of : Option ℕ → ℕ
-place_of (Some n) = n
-place_of None = entries
 
 -- the triangles of a cell of entry n
 unfoldable pub triangles_at : ℕ → ℕ

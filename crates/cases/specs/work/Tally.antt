@@ -1,8 +1,13 @@
 -- Sums over the entries of the table, as they are counted.
-use Rattle.std.specs.Prelude.{ℕ, ◌*◌, ◌<◌, ◌≡◌, List, eqb, get_or, length}
+use Rattle.std.specs.Prelude.{ℕ, Option, Some, None, ◌*◌, ◌<◌, ◌≡◌, List, eqb, get_or, length}
 use Rattle.counting.specs.Search.{count}
 use Rattle.cases.specs.claims.Cases.{entries}
 use Rattle.cases.specs.claims.Tally.{triangles_at}
+
+-- the number that is found, or that of entries
+abbrev pub place_of : Option ℕ → ℕ
+place_of (Some n) = n
+place_of None = entries
 
 -- the number of cells of entry n times their triangles
 unfoldable pub triangles_for : List ℕ → ℕ → ℕ

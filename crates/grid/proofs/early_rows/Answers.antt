@@ -1,6 +1,6 @@
 use mathlib.Core.Path.{◌∙◌, refl, sym}
 use Rattle.answer.specs.work.Faults.{since}
-use Rattle.grid.specs.Lent.{rebuilt}
+use Rattle.grid.specs.work.Lent.{rebuilt}
 use Rattle.grid.specs.Rows.{rows}
 use Rattle.grid.proofs.Answers.{answer_clear, answer_found}
 use Rattle.grid.proofs.early_rows.Goals as goal

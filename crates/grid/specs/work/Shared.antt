@@ -1,10 +1,15 @@
--- What the functions promise that the check of a flat grid shares with that of a grid: edges by keys.
+-- What the functions promise that the check of a flat grid shares with that of a grid: the sum of row 10, and edges by keys.
 use Rattle.std.specs.Prelude.{ℕ, suc, ◌+◌, ◌*◌, min, Bool, not, List, get_or, eqb, ltb}
 use Rattle.counting.specs.Pick.{pick}
 use Rattle.counting.specs.Search.{first, last, some}
 use Rattle.counting.specs.work.Tables.{same_key}
 use Rattle.slots.specs.work.Limits.{most_edges}
-use Rattle.grid.specs.Grid.{low, high}
+use Rattle.slots.specs.Limits.{most_crossings}
+use Rattle.grid.specs.Grid.{low, high, crossings}
+
+-- the number of crossings, or 65,536 where it is more than 65,535
+unfoldable pub capped : List ℕ → ℕ
+capped counts = pick (ltb most_crossings (crossings counts)) (most_crossings + 1) (crossings counts)
 
 -- a key is nodes packed into one number, so that equal keys are equal nodes
 abbrev pub join : ℕ → ℕ → ℕ

@@ -4,7 +4,7 @@ use mathlib.Core.List.{List}
 use native.Mathlib.Omega.{arith}
 use lib.ListN.{length, take, length-take}
 use Rattle.std.specs.Prelude.{Option}
-use Rattle.counting.specs.Search.{found}
+use Rattle.counting.specs.work.Search.{found}
 use Rattle.counting.specs.Stored.{filled}
 use Rattle.counting.proofs.Search.{found_ext}
 use Rattle.counting.proofs.Stored.{filled_ext}

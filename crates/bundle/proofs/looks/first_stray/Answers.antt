@@ -4,7 +4,7 @@ use mathlib.Core.Path.{◌≡◌, sym, ap, ◌∙◌}
 use mathlib.Core.Bool.{Bool, false}
 use native.Mathlib.Decide.{dec_lt}
 use native.Mathlib.Omega.{arith}
-use Rattle.counting.specs.Search.{found}
+use Rattle.counting.specs.work.Search.{found}
 use Rattle.counting.proofs.Search.{first_is, first_below, first_none, found_first, found_none, found_hit, found_end}
 use Rattle.bundle.specs.Bundle.{is_stray}
 use Rattle.bundle.proofs.looks.first_stray.Goals as goal

@@ -1,7 +1,8 @@
 use Rattle.std.proofs.Common.{◌≡◌, ap, sym, ◌∙◌, rules}
 use denote.Enum.Bare.{same_true, same_false}
 use Rattle.bundle.specs.contracts.kinds.Section.{the_type}
-use Rattle.bundle.specs.Bundle.{section_number, section_of}
+use Rattle.bundle.specs.Bundle.{section_of}
+use Rattle.bundle.specs.work.Kinds.{section_number}
 use Rattle.bundle.proofs.OneRecord.{found, not_found, section_tells}
 use Rattle.bundle.proofs.Runs.{next_some, next_none, is-of, none_of, other_of}
 use Rattle.bundle.proofs.reader.next_in.Goals as goal

@@ -1,6 +1,6 @@
 use Prim.Native.Nat.{◌+◌}
 use Rattle.std.proofs.Common.{arith}
-use Rattle.bundle.specs.Bundle.{section_number}
+use Rattle.bundle.specs.work.Kinds.{section_number}
 use Rattle.bundle.proofs.OneRecord.{stands, next_ge}
 use Rattle.bundle.proofs.Runs.{Going, going, on, arrived, of_record, some_next, none_next}
 use Rattle.bundle.proofs.reader.run_from.Goals as goal

@@ -1,6 +1,6 @@
 use Prim.Native.Nat.{◌-◌}
 use lib.ListN.{length}
-use Rattle.bundle.specs.Bundle.{section_number}
+use Rattle.bundle.specs.work.Kinds.{section_number}
 use Rattle.bundle.proofs.Runs.{Going}
 use Rattle.bundle.proofs.reader.run_from.Given as goal
 

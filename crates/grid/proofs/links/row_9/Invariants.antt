@@ -1,7 +1,7 @@
 use Rattle.std.specs.Prelude.{ℕ, ◌<◌, ◌≡◌, false}
 use mathlib.Core.Path.{◌≡◌}
 use lib.ListN.{length}
-use Rattle.grid.specs.Lent.{rebuilt}
+use Rattle.grid.specs.work.Lent.{rebuilt}
 use Rattle.grid.specs.Rows.{split}
 use Rattle.grid.proofs.Ring.{Under}
 use Rattle.grid.proofs.links.row_9.Given as goal
