@@ -6,11 +6,11 @@ ghost use Rattle.counting.specs.work.Search.{found};
 ghost use Rattle.counting.specs.Stored.{filled};
 ghost use Rattle.bundle.specs.Record.{next_record, is_record};
 ghost use Rattle.bundle.specs.Bundle.{edges, looks, is_stray, count_after};
-ghost use Rattle.trees.specs.work.Trees.{link_to, Tree};
-ghost use Rattle.bundle.specs.work.Looked.{block_looks, look_branches, key_at, block_key, EndsWithin, MarksLent, KeysMarked, MarksRead, top_unmet, LooksLent, Counted, count_or};
+ghost use Rattle.trees.specs.work.Trees.{link_to};
+ghost use Rattle.bundle.specs.work.Looked.{block_looks, key_at, block_key, EndsWithin, MarksLent, KeysMarked, MarksRead, top_unmet, LooksLent, Counted, count_or};
 
 use crate::records::{COUNT_PLACE, HEAD_BYTES, LOOK_BYTES, WORD_BYTES, word_at};
-use trees::{Keys, MOST_PLACES, TREES, grow, latest};
+use trees::{Forest, Keys, MOST_PLACES, TREES, plant};
 
 // The looks of a block, at most.
 const BLOCK: usize = MOST_PLACES;
@@ -93,16 +93,17 @@ fn next_at(bytes: &[u8], at: usize) -> usize
     at + WORD_BYTES + word_at(bytes, at) as usize
 }
 
-// Marks the last look of each key that an edge has.
-fn mark(block: &Block, links: &[u16], met: &mut [bool])
-    requires { MarksLent block.now.of.bytes.now block.now.first block.now.count links.now met.old }
-    ensures { KeysMarked block.now.of.bytes.now block.now.first block.now.count met.new }
+// Marks the last look of each key that an edge has, of those that are planted.
+fn mark(forest: &Forest<Block, BRANCHES>, met: &mut [bool])
+    requires { MarksLent forest.now.count met.old }
+    ensures { KeysMarked forest.now.keys.now.of.bytes.now forest.now.keys.now.first forest.now.count met.new }
 {
+    let block = forest.keys;
     let mut at = block.of.from;
     for _ in 0..block.of.edges {
         let key = key_at(block.of.bytes, at);
         at = next_at(block.of.bytes, at);
-        if let Some(place) = latest::<Block, BRANCHES>(block, links, key) {
+        if let Some(place) = forest.latest(key) {
             met[place] = true;
         }
     }
@@ -128,9 +129,10 @@ fn stray_in(block: &Block) -> Option<usize>
     let mut links = [0u16; LINKS];
     let mut tops = [0u16; BLOCK];
     let mut met = [false; BLOCK];
-    grow::<Block, BRANCHES>(block, &mut links, &mut tops);
-    mark(block, &links, &mut met);
-    unmet(&tops, block.count, &met)
+    let count = block.count;
+    let forest = plant::<Block, BRANCHES>(block, &mut links, &mut tops);
+    mark(&forest, &mut met);
+    unmet(&tops, count, &met)
 }
 
 // The lowest look that is for no edge.
@@ -163,30 +165,32 @@ fn count_from(block: &Block, place: Option<usize>, given: u16) -> u16
     }
 }
 
-// Puts the counts of the looks of a block, which are planted, into the list.
-fn put_counts(block: &Block, links: &[u16], counts: &mut [u16])
-    requires tree { Tree look_branches (block_key block.now.of.bytes.now block.now.first) block.now.count 0 links.now }
-    requires counted { Counted block.now.of.bytes.now block.now.first counts.old }
-    ensures { counts.new ≡ filled (count_after block.now.of.bytes.now (block.now.first + block.now.count)) (edges block.now.of.bytes.now) counts.old }
+// Puts the counts of the looks that are planted into the list.
+fn put_counts(forest: &Forest<Block, BRANCHES>, counts: &mut [u16])
+    requires { Counted forest.now.keys.now.of.bytes.now forest.now.keys.now.first counts.old }
+    ensures { counts.new ≡ filled (count_after forest.now.keys.now.of.bytes.now (forest.now.keys.now.first + forest.now.count)) (edges forest.now.keys.now.of.bytes.now) counts.old }
 {
+    let block = forest.keys;
     let mut at = block.of.from;
     for k in 0..block.of.edges {
         let key = key_at(block.of.bytes, at);
-        let place = latest::<Block, BRANCHES>(block, links, key);
+        let place = forest.latest(key);
         counts[k] = count_from(block, place, counts[k]);
         at = next_at(block.of.bytes, at);
     }
 }
 
-// The same, which plants them first. Keeps 136 KB on the stack.
+// Puts the counts of the looks of a block into the list. Keeps 136 KB on the stack.
 fn replace_in(block: &Block, counts: &mut [u16])
     requires { Counted block.now.of.bytes.now block.now.first counts.old }
     ensures { counts.new ≡ filled (count_after block.now.of.bytes.now (block.now.first + block.now.count)) (edges block.now.of.bytes.now) counts.old }
 {
     let mut links = [0u16; LINKS];
     let mut tops = [0u16; BLOCK];
-    grow::<Block, BRANCHES>(block, &mut links, &mut tops);
-    put_counts(block, &links, counts);
+    put_counts(
+        &plant::<Block, BRANCHES>(block, &mut links, &mut tops),
+        counts,
+    );
 }
 
 // Puts the surviving counts in place of the edges' own.

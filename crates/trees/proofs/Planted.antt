@@ -1,14 +1,15 @@
 -- Laws of a list's keys in trees: the place before each, and pairs that have a key. Assumes nothing.
 use Rattle.std.specs.Prelude.{Some, None}
-use Prim.Native.Nat.{ℕ, suc, ◌+◌, ◌-◌, ◌%◌, ◌≤◌, ◌<◌}
+use Prim.Native.Nat.{ℕ, suc, ◌+◌, ◌-◌, ◌*◌, ◌/◌, ◌%◌, ◌≤◌, ◌<◌}
 use mathlib.Core.Path.{◌≡◌, refl, sym, ap, ◌∙◌}
 use mathlib.Core.Bool.{Bool, true, false, not}
 use mathlib.Core.List.{List}
+use native.Mathlib.Nat.{mul-add, mul-one, mul-le-mul_left}
 use native.Mathlib.Numerals.{add-one}
 use native.Mathlib.Decide.{dec_lt, ℕ_discrete}
 use native.Mathlib.Omega.{arith}
 use lib.Dec.{ltb}
-use lib.ListN.{length, get_or, set, take, length-set}
+use lib.ListN.{length, get_or, set, take, length-set, get_or-eq_default}
 use lib.Seq.{ext_get_or, get_or-take, get_or-set_same, get_or-set_other}
 use borrow.Author.Tests.{eq-eqb, ne_eqb, lt-ltb, le-ltb}
 use Rattle.counting.specs.Pick.{pick}
@@ -17,9 +18,9 @@ use Rattle.counting.specs.work.Search.{found}
 use Rattle.counting.specs.Stored.{filled}
 use Rattle.counting.proofs.Search.{last_none, last_hit, last_miss, seek_end, seek_hit, seek_miss, seek_start, some_last, last_ext, some_ext}
 use Rattle.counting.proofs.Stored.{filled_at, filled_beyond, length_filled}
-use Rattle.trees.specs.work.Trees.{has_key, top_for, Tops}
+use Rattle.trees.specs.work.Trees.{trees, has_key, top_for, Tops}
 use Rattle.trees.specs.work.Keys.{most_places, key_in, earlier_in, pair_in, pair_has, pair_lacks, below_or, paired_at}
-use Rattle.trees.specs.work.Planted.{top_at, KeyTops, Stepping, met, pair_from, PairsMarked, lowest_from, Topped, source_at, spread_at}
+use Rattle.trees.specs.work.Planted.{link_room, planted_of, top_at, KeyTops, Stepping, met, pair_from, PairsMarked, lowest_from, Topped, source_at, spread_at}
 use Rattle.trees.proofs.Trees.{top_le, top_key, top_self, tops_none, tops_more}
 
 -- the loop of `grow`
@@ -34,6 +35,35 @@ module _ (key : ℕ → ℕ) (n : ℕ) (was : List ℕ) where
         same = length-set tops i p ∙ w.same;
         rest = λ k h. get_or-set_other tops i k p 0 (λ q. omega arith) ∙ w.rest k h;
       }
+
+-- links that have room
+module _ (b l n : ℕ) where
+  pub room_fits : n ≤ link_room b l → 0 < n → (0 < b) × (trees + b * n ≤ l)
+  unfolding link_room
+  room_fits h pos = elim (dec_lt 0 b) [
+    | yes some ↦
+        let within : n ≤ (l - trees) / b = rw (lt-ltb 0 b some) at h in
+        (some, omega (arith, mul-le-mul_left b within, mul-le-mul_left b pos, mul-one b))
+    | no none ↦ let e : link_room b l ≡ 0 = rw (le-ltb 0 b (omega arith)) in absurd (omega arith)
+  ]
+
+  pub fits_room : 0 < b → trees + b * n ≤ l → n ≤ link_room b l
+  unfolding link_room
+  fits_room some room = rw (lt-ltb 0 b some) (elim (dec_lt ((l - trees) / b) n) [
+    | yes less ↦ absurd (omega (arith, mul-le-mul_left b less, mul-add b ((l - trees) / b) 1, mul-one b))
+    | no more ↦ omega arith
+  ])
+
+  pub planted_all : 0 < b → trees + b * n ≤ l → n ≤ most_places → (tops : ℕ) → n ≤ tops → planted_of b n l tops ≡ n
+  unfolding planted_of
+  planted_all some room few tops fits = omega (arith, fits_room some room)
+
+-- a list of zeros
+pub blank_all : (l : List ℕ) → ((i : ℕ) → i < length l → get_or l i 0 ≡ 0) → (y : ℕ) → get_or l y 0 ≡ 0
+blank_all l zeros y = elim (dec_lt y (length l)) [
+  | yes h ↦ zeros y h
+  | no h ↦ get_or-eq_default l 0 (omega arith)
+]
 
 -- the first n keys, as a list of their own
 module _ (keys : List ℕ) (n : ℕ) where

@@ -1,5 +1,7 @@
 -- Laws of places in trees. Assumes nothing.
 use Prim.Native.Nat.{ℕ, zero, suc, ◌+◌, ◌-◌, ◌*◌, ◌/◌, ◌%◌, ◌≤◌, ◌<◌}
+use mathlib.Core.HLevel.{⊥_prop}
+use mathlib.Core.Logic.{∥∥₁_prop, ∥∥₁_elim, ∥∥₁_map}
 use mathlib.Core.Path.{◌≡◌, refl, sym, ap, ◌∙◌}
 use mathlib.Core.List.{List}
 use native.Mathlib.Nat.{mod-lt, mul-add, mul-one, mul-le-mul_left}
@@ -86,11 +88,11 @@ module _ (b : ℕ) (some : 0 < b) (key : ℕ → ℕ) (n low : ℕ) (links : Lis
         record {
           within = g.within;
           is = elim (dec_lt low (top_for key n x)) [
-            | yes h ↦ let l = g.ahead h in absurd (no_way b links l.0 at rest (top_for key n x) (omega (arith, g.here)) (omega arith) l.1)
+            | yes h ↦ absurd (∥∥₁_elim (g.ahead h) ⊥_prop (λ l. no_way b links l.0 at rest (top_for key n x) (omega (arith, g.here)) (omega arith) l.1))
             | no h ↦ rw (le-ltb low (top_for key n x) (omega arith)) (omega (arith, g.here))
           ];
           below = g.below;
-          way = λ more k. g.back more k (get_or more at 0) (0, refl);
+          way = λ more k. g.back more k (get_or more at 0) ∣ (0, refl) ∣₁;
         }
 
     module _ (pos : 0 < j) where
@@ -113,7 +115,7 @@ module _ (b : ℕ) (some : 0 < b) (key : ℕ → ℕ) (n low : ℕ) (links : Lis
             within = g.within;
             is = rw (← e, lt-ltb low (get_or links at 0) (w.after at linked));
             below = g.below;
-            way = λ more k. g.back more k (get_or more at 0) (0, refl);
+            way = λ more k. g.back more k (get_or more at 0) ∣ (0, refl) ∣₁;
           }
 
       pub descending_less : get_or links (trees + b * (j - 1) + rest % b) 0 < j
@@ -131,13 +133,13 @@ module _ (b : ℕ) (some : 0 < b) (key : ℕ → ℕ) (n low : ℕ) (links : Lis
             within = descending_room;
             here = e;
             below = λ i r h q. omega (arith, descending_after, branch-of b (j - 1) i (rest % b) r (mod-lt rest {m = b} (omega arith)) h (omega (arith, q)));
-            back = λ more k t l. g.back more k t (suc l.0, rw (k at linked ∙ sym g.here) (pos, l.1));
-            ahead = λ h. let l = g.ahead h in go h l.0 l.1;
+            back = λ more k t w. g.back more k t (∥∥₁_map w (λ l. (suc l.0, rw (k at linked ∙ sym g.here) (pos, l.1))));
+            ahead = λ h. ∥∥₁_elim (g.ahead h) ∥∥₁_prop (λ l. go h l.0 l.1);
           }
         where
           go : low < top_for key n x → (d : ℕ) → Comes b links d at rest (top_for key n x) → Leads b links (branch_of b j rest) (rest / b) (top_for key n x)
           go h zero c = absurd (ne (ap (λ i. key (i - 1)) (g.here ∙ c) ∙ top_key key n x (omega arith)))
-          go h (suc d) c = (d, rw g.here c.1)
+          go h (suc d) c = ∣ (d, rw g.here c.1) ∣₁
 
 -- place i is planted after all the later ones, where its key's way ends
 module _ (b : ℕ) (key : ℕ → ℕ) (n i : ℕ) (links : List ℕ) (hi : i < n) (w : Tree b key n (i + 1) links) (at : ℕ) (f : Sought b key n (i + 1) links (key i) at) where
@@ -203,7 +205,7 @@ module _ (b : ℕ) (key : ℕ → ℕ) (n i : ℕ) (links : List ℕ) (hi : i < 
             | no q ↦ rw (other (trees + b * k + r) q) (w.down k r h)
           ];
           leads = λ k l h. elim (dec_lt i k) [
-            | yes a ↦ let c = w.leads k (omega arith) h in (c.0, comes_keeps b links new keeps c.0 (root_of (key k)) (key k) (top_for key n (key k)) (omega (arith, top_self key n k h)) c.1)
+            | yes a ↦ ∥∥₁_map (w.leads k (omega arith) h) (λ c. (c.0, comes_keeps b links new keeps c.0 (root_of (key k)) (key k) (top_for key n (key k)) (omega (arith, top_self key n k h)) c.1))
             | no a ↦ let e : k ≡ i = omega arith in rw e (rw (there ∙ plant_own) at (f.way new keeps))
           ];
         }

@@ -1,5 +1,5 @@
 // Places in trees by their keys, for any keys and any number of branches (`bundle` plants looks, whose keys lie in bytes, and the code here keys in a
-// list). The two public functions over lists answer every input, and say nothing of trees.
+// list). The public functions answer every input; the two over lists say nothing of trees.
 #![tactic(auto)]
 
 ghost use Rattle.std.specs.Prelude.{◌≡◌, ◌+◌, ◌*◌, ◌/◌, ◌≤◌, min, length};
@@ -13,7 +13,7 @@ mod earlier;
 mod pairs;
 mod planting;
 
-pub use planting::{Keys, grow, latest};
+pub use planting::{Forest, Keys, plant};
 
 // The trees: a prime that shares no factor with 65,536, by which keys are packed, and leaves 2,184 of it: neighbouring keys fall apart.
 pub const TREES: usize = 7919;
@@ -56,7 +56,10 @@ fn pairs_within<const LINKS: usize, const PLACES: usize>(
 {
     let mut links = [0u16; LINKS];
     let mut tops = [0u16; PLACES];
-    pairs::put_pairs(pairs, keys, &mut links, &mut tops, places)
+    let forest = planting::plant_all::<&[usize], BRANCHES>(&keys, &mut links, &mut tops);
+    let lowest = pairs::mark(pairs, &forest, &mut tops, places);
+    pairs::spread(keys.len(), &tops, places);
+    lowest
 }
 
 // The lowest pair that has none of the first n keys, up to the end of either list and no more than 12,288. Each of these keys that a pair has gets one

@@ -6,7 +6,7 @@ ghost use Rattle.trees.specs.work.Keys.{key_in, pair_in, pair_lacks, paired_at};
 ghost use Rattle.trees.specs.work.Planted.{key_branches, Growing, PairsLent, PairsMarked, Topped, source_at, spread_at};
 
 use crate::BRANCHES;
-use crate::planting::{grow, latest};
+use crate::planting::Forest;
 
 // The mark of a last place whose key a pair has, on top of what stands there.
 const MET: usize = 32768;
@@ -22,21 +22,20 @@ fn pair_at(pairs: &[u16], e: usize) -> usize
 }
 
 // The lowest pair that has none of the keys. The last place with a key that a pair has gets one more than the lowest such pair, and a mark.
-fn mark(
+pub(crate) fn mark(
     pairs: &[u16],
-    keys: &[usize],
-    links: &[u16],
+    forest: &Forest<&[usize], BRANCHES>,
     tops: &mut [u16],
     places: &mut [usize],
 ) -> Option<usize>
-    requires { PairsLent keys.now (length keys.now) links.now tops.old places.old }
-    ensures value { result ≡ found (pair_lacks pairs.now keys.now (length keys.now)) (length pairs.now / 2) }
-    ensures pairs_marked { PairsMarked pairs.now (length pairs.now / 2) keys.now (length keys.now) 0 places.old tops.new places.new }
+    requires { PairsLent forest.now.keys.now.now forest.now.count tops.old places.old }
+    ensures value { result ≡ found (pair_lacks pairs.now forest.now.keys.now.now forest.now.count) (length pairs.now / 2) }
+    ensures pairs_marked { PairsMarked pairs.now (length pairs.now / 2) forest.now.keys.now.now forest.now.count 0 places.old tops.new places.new }
 {
     let mut lowest = None;
     for e in (0..pairs.len() / 2).rev() {
         let key = pair_at(pairs, e);
-        let Some(p) = latest::<&[usize], BRANCHES>(&keys, links, key) else {
+        let Some(p) = forest.latest(key) else {
             lowest = Some(e);
             continue;
         };
@@ -57,7 +56,7 @@ fn source(tops: &[u16], n: usize, j: usize) -> usize
 }
 
 // Each of n places gets the entry of the last with its key, where that has a mark.
-fn spread(n: usize, tops: &[u16], places: &mut [usize])
+pub(crate) fn spread(n: usize, tops: &[u16], places: &mut [usize])
     requires topped { Topped n tops.now }
     requires n_in_bounds { n ≤ length places.old }
     ensures { places.new ≡ filled (spread_at tops.now places.old) n places.old }
@@ -65,23 +64,4 @@ fn spread(n: usize, tops: &[u16], places: &mut [usize])
     for j in 0..n {
         places[j] = places[source(tops, n, j)];
     }
-}
-
-// The lowest pair that has none of the keys. Each key that a pair has gets one more than the lowest such pair; the other entries stay.
-pub(crate) fn put_pairs(
-    pairs: &[u16],
-    keys: &[usize],
-    links: &mut [u16],
-    tops: &mut [u16],
-    places: &mut [usize],
-) -> Option<usize>
-    requires growing { Growing key_branches (key_in keys.now) (length keys.now) links.old tops.old }
-    requires n_in_bounds { length keys.now ≤ length places.old }
-    ensures value { result ≡ found (pair_lacks pairs.now keys.now (length keys.now)) (length pairs.now / 2) }
-    ensures places_after { places.new ≡ filled (paired_at pairs.now (length pairs.now / 2) keys.now places.old) (length keys.now) places.old }
-{
-    grow::<&[usize], BRANCHES>(&keys, links, tops);
-    let lowest = mark(pairs, keys, links, tops, places);
-    spread(keys.len(), tops, places);
-    lowest
 }

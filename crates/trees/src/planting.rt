@@ -1,11 +1,11 @@
 // Keys in trees: the remainder of a key chooses the tree, and at each place on the way down the next digit of the key, to the base B, chooses one of B
 // branches. With two branches keys of 32 bits have ways of 33 places at most, whatever they are, and keys of 64 bits of 65; with four, 17 and 33.
-ghost use Rattle.std.specs.Prelude.{◌≡◌, ℕ, ◌<◌, length};
+ghost use Rattle.std.specs.Prelude.{◌≡◌, ℕ, ◌<◌, ◌≤◌, length};
 ghost use Rattle.trees.specs.work.Trees.{Tree, top_for, link_to, Sought};
 ghost use Rattle.trees.specs.work.Keys.{key_in};
-ghost use Rattle.trees.specs.work.Planted.{Planting, Growing, KeyTops};
+ghost use Rattle.trees.specs.work.Planted.{Planting, Growing, Grown, KeyTops, link_room, planted_of};
 
-use crate::TREES;
+use crate::{MOST_PLACES, TREES};
 
 // Keys at places, in whatever memory they lie.
 pub trait Keys {
@@ -60,7 +60,7 @@ fn seek<K: Keys, const B: usize>(keys: &K, low: usize, links: &[u16], key: usize
 }
 
 // Plants place i, unless a later one with its key stands; those after it are planted. Answers one more than the last place with its key.
-fn plant<K: Keys, const B: usize>(keys: &K, i: usize, links: &mut [u16]) -> usize
+fn plant_one<K: Keys, const B: usize>(keys: &K, i: usize, links: &mut [u16]) -> usize
     requires { Planting B (K.key_at keys.now) (K.places keys.now) i links.old }
     ensures value { result ≡ top_for (K.key_at keys.now) (K.places keys.now) (K.key_at keys.now i) }
     ensures tree { Tree B (K.key_at keys.now) (K.places keys.now) i links.new }
@@ -75,22 +75,110 @@ fn plant<K: Keys, const B: usize>(keys: &K, i: usize, links: &mut [u16]) -> usiz
 }
 
 // Plants all places, and fills in, for each, one more than the last with its key.
-pub fn grow<K: Keys, const B: usize>(keys: &K, links: &mut [u16], tops: &mut [u16])
+pub(crate) fn grow<K: Keys, const B: usize>(keys: &K, links: &mut [u16], tops: &mut [u16])
     requires { Growing B (K.key_at keys.now) (K.places keys.now) links.old tops.old }
     ensures tree { Tree B (K.key_at keys.now) (K.places keys.now) 0 links.new }
     ensures key_tops { KeyTops (K.key_at keys.now) (K.places keys.now) 0 tops.old tops.new }
 {
     for i in (0..keys.count()).rev() {
-        tops[i] = plant::<K, B>(keys, i, links) as u16;
+        tops[i] = plant_one::<K, B>(keys, i, links) as u16;
     }
 }
 
-// The last place with this key, where one has it.
-pub fn latest<K: Keys, const B: usize>(keys: &K, links: &[u16], key: usize) -> Option<usize>
-    requires some { 0 < B }
-    requires tree { Tree B (K.key_at keys.now) (K.places keys.now) 0 links.now }
-    ensures { link_to result ≡ top_for (K.key_at keys.now) (K.places keys.now) key }
+// The first `count` places of keys, by themselves.
+#[derive(Drop)]
+struct First<'k, K: Keys> {
+    keys: &'k K,
+    count: usize,
+    ghost within: { count ≤ K.places keys.now },
+}
+
+impl<K: Keys> Keys for First<'_, K> {
+    ghost places = { λ first. first.count };
+
+    ghost key_at = { λ first. K.key_at first.keys.now };
+
+    fn count(&self) -> usize {
+        self.count
+    }
+
+    fn key(&self, place: usize) -> usize {
+        self.keys.key(place)
+    }
+}
+
+// The first `count` places of keys, planted in links with B branches to a place.
+#[derive(Drop)]
+pub struct Forest<'k, K: Keys, const B: usize> {
+    pub keys: &'k K,
+    pub count: usize,
+    links: &'k [u16],
+    ghost within: { count ≤ K.places keys.now },
+    ghost grown: { 0 < count → Grown B (K.key_at keys.now) count links.now },
+}
+
+// For how many places the links have room; for none without branches.
+fn room<const B: usize>(links: &[u16]) -> usize
+    ensures { result ≡ link_room B (length links.now) }
 {
-    let at = seek::<K, B>(keys, 0, links, key);
-    (links[at] as usize).checked_sub(1)
+    links
+        .len()
+        .saturating_sub(TREES)
+        .checked_div(B)
+        .unwrap_or(0)
+}
+
+// Plants all places in empty links, and fills in, for each, one more than the last with its key.
+pub(crate) fn plant_all<'k, K: Keys, const B: usize>(
+    keys: &'k K,
+    links: &'k mut [u16],
+    tops: &mut [u16],
+) -> Forest<'k, K, B>
+    requires { Growing B (K.key_at keys.now) (K.places keys.now) links.old tops.old }
+    ensures keys { result.keys.now ≡ keys.now }
+    ensures count { result.count ≡ K.places keys.now }
+    ensures key_tops { KeyTops (K.key_at keys.now) (K.places keys.now) 0 tops.old tops.new }
+{
+    grow::<K, B>(keys, links, tops);
+    let count = keys.count();
+    Forest { keys, count, links }
+}
+
+// Plants as many of the places as links and tops have room for, 12,288 at most, and fills in, for each, one more than the last of them with its key.
+pub fn plant<'k, K: Keys, const B: usize>(
+    keys: &'k K,
+    links: &'k mut [u16],
+    tops: &mut [u16],
+) -> Forest<'k, K, B>
+    ensures keys { result.keys.now ≡ keys.now }
+    ensures count { result.count ≡ planted_of B (K.places keys.now) (length links.old) (length tops.old) }
+    ensures key_tops { KeyTops (K.key_at keys.now) result.count 0 tops.old tops.new }
+{
+    let count = keys
+        .count()
+        .min(tops.len())
+        .min(room::<B>(links))
+        .min(MOST_PLACES);
+    links.fill(0);
+    if 0 < count {
+        grow::<First<K>, B>(&First { keys, count }, links, tops);
+    }
+    Forest { keys, count, links }
+}
+
+impl<K: Keys, const B: usize> Forest<'_, K, B> {
+    // The last of the planted places with this key, where one has it.
+    pub fn latest(&self, key: usize) -> Option<usize>
+        ensures { link_to result ≡ top_for (K.key_at self.now.keys.now) self.now.count key }
+    {
+        if self.count == 0 {
+            return None;
+        }
+        let first = First {
+            keys: self.keys,
+            count: self.count,
+        };
+        let at = seek::<First<K>, B>(&first, 0, self.links, key);
+        (self.links[at] as usize).checked_sub(1)
+    }
 }

@@ -2,7 +2,7 @@
 use Rattle.std.specs.Prelude.{ℕ, zero, suc, ◌+◌, ◌-◌, ◌*◌, ◌≤◌, ◌<◌, ◌≡◌, Bool, false, not, List, eqb, length, get_or}
 use Rattle.counting.specs.Search.{some}
 use Rattle.counting.specs.work.Tables.{Table}
-use Rattle.trees.specs.work.Trees.{top_for, Tree}
+use Rattle.trees.specs.work.Trees.{top_for}
 use Rattle.bundle.specs.Record.{byte_values, word_size, head_bytes, count_place, word, body}
 use Rattle.bundle.specs.Bundle.{edges_from, edges, looks_from, looks, edge_at, look_at, count_in, count_after}
 
@@ -45,9 +45,8 @@ pub record AllEdges (s : List ℕ) (from count : ℕ) : Type 0 where
 abbrev pub top_of : List ℕ → ℕ → ℕ → ℕ → ℕ
 top_of s m n e = top_for (block_key s m) n (edge_key s e)
 
--- what marks the keys that edges have: n looks from look m on, all planted, and as many marks, none set
-pub record MarksLent (s : List ℕ) (m n : ℕ) (links : List ℕ) (met : List Bool) : Type 0 where
-  pub tree : Tree look_branches (block_key s m) n 0 links
+-- what marks the keys that edges have: as many marks as looks, none set
+pub record MarksLent (n : ℕ) (met : List Bool) : Type 0 where
   pub room : n ≤ length met
   pub blank : (i : ℕ) → get_or met i false ≡ false
 

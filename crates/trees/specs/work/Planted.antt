@@ -1,5 +1,5 @@
 -- The keys of a list in trees: what the functions ask of each other.
-use Rattle.std.specs.Prelude.{ℕ, ◌+◌, ◌*◌, ◌-◌, ◌%◌, ◌≤◌, ◌<◌, ◌≡◌, Bool, List, Option, Some, None, ltb, length, get_or}
+use Rattle.std.specs.Prelude.{ℕ, ◌+◌, ◌*◌, ◌-◌, ◌/◌, ◌%◌, min, ◌≤◌, ◌<◌, ◌≡◌, Bool, List, Option, Some, None, ltb, length, get_or}
 use Rattle.counting.specs.Pick.{pick}
 use Rattle.counting.specs.Lists.{seek}
 use Rattle.trees.specs.work.Trees.{trees, top_for, Tree, Tops}
@@ -32,6 +32,18 @@ pub record Growing (b : ℕ) (key : ℕ → ℕ) (n : ℕ) (links tops : List �
   pub blank : (y : ℕ) → get_or links y 0 ≡ 0
   pub tops_room : n ≤ length tops
 
+-- for how many places so many links have room, and how many of so many places are planted: as many as links and tops have room for, 12,288 at most
+unfoldable pub link_room : ℕ → ℕ → ℕ
+link_room b links = pick (ltb 0 b) ((links - trees) / b) 0
+
+unfoldable pub planted_of : ℕ → ℕ → ℕ → ℕ → ℕ
+planted_of b places links tops = min (min (min places tops) (link_room b links)) most_places
+
+-- the first n places are planted, where there are any
+pub record Grown (b : ℕ) (key : ℕ → ℕ) (n : ℕ) (links : List ℕ) : Type 0 where
+  pub some : 0 < b
+  pub tree : Tree b key n 0 links
+
 -- what it leaves: for each place from low on, one more than the last with its key; the entries beyond n as they were
 pub record KeyTops (key : ℕ → ℕ) (n low : ℕ) (was tops : List ℕ) : Type 0 where
   pub tops_are : Tops key n low tops
@@ -58,8 +70,7 @@ abbrev pub lowest_from : (ℕ → Bool) → ℕ → ℕ → Option ℕ
 lowest_from t m e = pick (ltb (seek t (m - e) e) m) (Some (seek t (m - e) e)) None
 
 -- what marks the tops that a pair has: all the places planted, and room
-pub record PairsLent (keys : List ℕ) (n : ℕ) (links tops places : List ℕ) : Type 0 where
-  pub tree : Tree key_branches (key_in keys) n 0 links
+pub record PairsLent (keys : List ℕ) (n : ℕ) (tops places : List ℕ) : Type 0 where
   pub few : n ≤ most_places
   pub tops_are : Tops (key_in keys) n 0 tops
   pub room : n ≤ length places

@@ -45,7 +45,7 @@ Comes b links zero at rest t = get_or links at 0 ≡ t
 Comes b links (suc d) at rest t = (0 < get_or links at 0) × Comes b links d (branch_of b (get_or links at 0) rest) (rest / b) t
 
 abbrev pub Leads : ℕ → List ℕ → ℕ → ℕ → ℕ → Type 0
-Leads b links at rest t = (d : ℕ) × Comes b links d at rest t
+Leads b links at rest t = ∥ ((d : ℕ) × Comes b links d at rest t) ∥₁
 
 -- of n places those from low on are planted, of equal keys the last; branches lead to lower places
 pub record Tree (b : ℕ) (key : ℕ → ℕ) (n low : ℕ) (links : List ℕ) : Type 0 where

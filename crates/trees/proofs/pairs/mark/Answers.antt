@@ -14,12 +14,12 @@ up : (e : ℕ) → 0 < e → e ≡ e - 1 + 1
 up e h = omega arith
 
 -- the last place with its key
-last : (c : In-Some) → suc c.in-Some.p ≡ top_for (key_in c.args.keys.now) (length c.args.keys.now) (pair_in c.args.pairs.now (c.loop-e.e - 1))
+last : (c : In-Some) → suc c.in-Some.p ≡ top_for (key_in c.args.forest.now.keys.now.now) (c.args.forest.now.count) (pair_in c.args.pairs.now (c.loop-e.e - 1))
 last c = rw c.pair_at-key.ensures at c.in-Some.ensures
 
 -- is one of the keys
-few : (c : In-Some) → c.in-Some.p < length c.args.keys.now
-few c = omega (arith, last c, top_le (key_in c.args.keys.now) (length c.args.keys.now) (pair_in c.args.pairs.now (c.loop-e.e - 1)))
+few : (c : In-Some) → c.in-Some.p < c.args.forest.now.count
+few c = omega (arith, last c, top_le (key_in c.args.forest.now.keys.now.now) (c.args.forest.now.count) (pair_in c.args.pairs.now (c.loop-e.e - 1)))
 
 pub loop-e-init : goal.loop-e-init
 loop-e-init c = (refl, marked_none _ _ _ _ _ _ c.requires.tops_are, lowest_none _ _)

@@ -8,5 +8,5 @@ use Rattle.trees.proofs.pairs.mark.Given as goal
 abbrev pub invariant-loop-e : goal.invariant-loop-e
 invariant-loop-e l =
     (length l.tops ≡ length l.initial.tops)
-    × PairsMarked l.pairs (length l.pairs / 2) l.keys (length l.keys) l.e l.initial.places l.tops l.places
-    × (l.lowest ≡ lowest_from (pair_lacks l.pairs l.keys (length l.keys)) (length l.pairs / 2) l.e)
+    × PairsMarked l.pairs (length l.pairs / 2) l.forest.keys.now.now l.forest.count l.e l.initial.places l.tops l.places
+    × (l.lowest ≡ lowest_from (pair_lacks l.pairs l.forest.keys.now.now l.forest.count) (length l.pairs / 2) l.e)
