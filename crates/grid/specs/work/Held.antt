@@ -5,7 +5,7 @@ use Rattle.grid.specs.declared.scratch.Chain.{Chain}
 use Rattle.grid.specs.declared.scratch.Chains.{Chains}
 use Rattle.grid.specs.declared.scratch.NodeTables.{NodeTables}
 use Rattle.grid.specs.declared.scratch.SlotTables.{SlotTables}
-use Rattle.grid.specs.declared.scratch.EdgeTables.{EdgeTables as EdgeStruct}
+use Rattle.grid.specs.declared.scratch.EdgeTables.{EdgeTables}
 use Rattle.grid.specs.Grid.{Grid}
 use Rattle.grid.specs.work.Runs.{NodeChains, SidesPlaceable, Turnable}
 use Rattle.grid.specs.work.Walks.{ChainTables, Comparable, Fresh, LabelChains, LowChains, Numerable}
@@ -45,12 +45,12 @@ module _ {labels cells : ℕ} where
       t.chains.third.next tab sides
 
   module _ {edges : ℕ} where
-    abbrev pub EdgingBy : Grid → List ℕ → NodeTables labels cells → EdgeStruct edges cells → List ℕ → Type 0
+    abbrev pub EdgingBy : Grid → List ℕ → NodeTables labels cells → EdgeTables edges cells → List ℕ → Type 0
     EdgingBy G near t e sides =
         Edging G near t.ranks t.chains.first.head t.chains.first.next t.chains.second.head t.chains.second.next t.chains.third.head t.chains.third.next
         e.tab e.top e.degree e.marks sides
 
-    abbrev pub SidingBy : Grid → List ℕ → NodeTables labels cells → EdgeStruct edges cells → List ℕ → Type 0
+    abbrev pub SidingBy : Grid → List ℕ → NodeTables labels cells → EdgeTables edges cells → List ℕ → Type 0
     SidingBy G near t e sides =
         Siding G near t.ranks t.chains.first.head t.chains.first.next t.chains.second.head t.chains.second.next t.chains.third.head t.chains.third.next
         e.tab e.top e.degree e.marks sides

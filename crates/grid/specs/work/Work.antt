@@ -251,20 +251,12 @@ pub record Numbering (G : Grid) (near sides : List ℕ) : Type 0 where
   pub blank : Blank (cell_count G.cells) near sides
 
 -- the tables of n cells' edges, which are new
-pub record EdgeTables (n : ℕ) (tab top degree marks : List ℕ) : Type 0 where
+pub record NewEdgeTables (n : ℕ) (tab top degree marks : List ℕ) : Type 0 where
   pub tab_new : Fresh (highest_node + 1) tab
   pub top_new : Fresh (6 * n + 2) top
   pub degree_new : Fresh (6 * n + 2) degree
   pub long : length top ≤ length degree
   pub marks_new : Fresh n marks
-
--- the tables of n cells' numbers, which are new
-pub record CellTables (n : ℕ) (labels ranks at faces same : List ℕ) : Type 0 where
-  pub labels_new : Fresh (4 * n) labels
-  pub ranks_new : Fresh (highest_node + 1) ranks
-  pub faces_new : Fresh (4 * n) faces
-  pub same_new : Fresh (4 * n) same
-  pub at_new : Fresh (4 * n + 1) at
 
 -- what row 6 and those after it start from
 pub record Edging (G : Grid) (near ranks h0 x0 h1 x1 h2 x2 tab top degree marks sides : List ℕ) : Type 0 where
@@ -272,7 +264,7 @@ pub record Edging (G : Grid) (near ranks h0 x0 h1 x1 h2 x2 tab top degree marks 
   pub pairs : length G.edges ≡ 2 * length G.counts
   pub near_is : Neighbours G.cells near
   pub chained : NodeChains G.cells ranks h0 x0 h1 x1 h2 x2
-  pub tables : EdgeTables (cell_count G.cells) tab top degree marks
+  pub tables : NewEdgeTables (cell_count G.cells) tab top degree marks
   pub sides_new : Fresh (6 * cell_count G.cells) sides
 
 -- what row 7 and those after it start from: besides, the edges are sorted
