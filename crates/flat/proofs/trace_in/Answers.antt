@@ -32,14 +32,6 @@ returns-then-area-m g c =
 pub copy_words-requires : goal.copy_words-requires
 copy_words-requires g c = omega (arith, length-take c.put_words-m.result c.put_words-m.new.area, c.if-area-m.false)
 
-pub overflow_cast-result : goal.overflow_cast-result
-overflow_cast-result g c =
-    let P = c.requires in
-    let W = c.put_words-m.ensures in
-    let l = length-replicate {A = ℕ} g.row.ROOM 0 in
-    let r : 2 * c.args.n ≤ length (replicate {A = ℕ} g.row.ROOM 0) = omega (arith, l, P.n_in_bounds) in
-    omega (arith, made_few (lent c.args.grid) P.accepted _ (front_known _ _ P.sides_known) _ _ _ P.n_value r (front_steps (lent c.args.grid) _ P.sides_known _ _ _ c.put_steps.ensures) _ _ _ r W.area_after W.value, P.n_value, P.accepted.few_crossings)
-
 pub returns : goal.returns
 returns g c =
     let P = c.requires in

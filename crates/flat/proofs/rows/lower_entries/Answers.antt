@@ -3,12 +3,12 @@ use mathlib.Core.Path.{◌∙◌, ◌≡◌, ap, sym}
 use mathlib.Core.List.{List}
 use native.Mathlib.Omega.{arith}
 use native.Mathlib.Nat.{not-suc-le-zero}
-use lib.ListN.{get_or, length}
+use lib.ListN.{get_or}
 use borrow.Author.Count.{below_more}
 use borrow.Author.Tests.{eq-eqb, ne_eqb}
 use Rattle.counting.specs.Stored.{filled}
 use Rattle.counting.proofs.Search.{found_end, found_hit}
-use Rattle.counting.proofs.Stored.{filled_beyond, filled_more, filled_none, length_filled}
+use Rattle.counting.proofs.Stored.{filled_beyond, filled_more, filled_none}
 use Rattle.flat.proofs.rows.lower_entries.Goals as goal
 
 -- the entry at j is still as it was
@@ -18,15 +18,6 @@ entry was j e = ap (λ (l : List ℕ). get_or l j 0) e ∙ filled_beyond (λ j. 
 pub loop-j-init : goal.loop-j-init
 loop-j-init c = record { none = λ i h. absurd (not-suc-le-zero h); lowered = filled_none _ _ }
 
-pub offset_bounds-sides-j : goal.offset_bounds-sides-j
-offset_bounds-sides-j c = omega (arith, c.requires)
-
-pub bounds-sides-j : goal.bounds-sides-j
-bounds-sides-j c = omega (arith, c.requires, simp length_filled at (ap length c.loop-j.invariant.lowered))
-
-pub shape_of-sides-then-p-eq0 : goal.shape_of-sides-then-p-eq0
-shape_of-sides-then-p-eq0 c = simp length_filled at (ap length c.loop-j.invariant.lowered)
-
 pub returns-then-p-eq0 : goal.returns-then-p-eq0
 returns-then-p-eq0 c =
     let L = c.loop-j in
@@ -34,12 +25,6 @@ returns-then-p-eq0 c =
       result_value = found_hit _ _ L.j (omega arith) (eq-eqb _ 0 (sym (entry c.args.sides.now L.j L.invariant.lowered) ∙ c.if-p-eq0.true)) L.invariant.none;
       sides_after = L.invariant.lowered;
     }
-
-pub offset_bounds-sides-j-in-loop-j : goal.offset_bounds-sides-j-in-loop-j
-offset_bounds-sides-j-in-loop-j c = omega (arith, c.requires)
-
-pub bounds-sides-j-in-loop-j : goal.bounds-sides-j-in-loop-j
-bounds-sides-j-in-loop-j c = omega (arith, c.requires, simp length_filled at (ap length c.loop-j.invariant.lowered))
 
 pub loop-j-preserved : goal.loop-j-preserved
 loop-j-preserved c =
@@ -49,9 +34,6 @@ loop-j-preserved c =
       none = below_more _ _ L.invariant.none (ne_eqb _ 0 (λ q. c.if-p-eq0.false (e ∙ q)));
       lowered = filled_more _ _ _ _ _ L.invariant.lowered (ap (λ (x : ℕ). x - 1) e);
     }
-
-pub shape_of-sides : goal.shape_of-sides
-shape_of-sides c = simp length_filled at (ap length c.loop-j.invariant.lowered)
 
 pub returns : goal.returns
 returns c =

@@ -25,11 +25,6 @@ pub loop-e-preserved : goal.loop-e-preserved
 loop-e-preserved c = let c-loop = c.loop-e in
     all_more _ _ _ _ _ _ _ c-loop.invariant c.put_edge.ensures
 
-pub shape_of-next : goal.shape_of-next
-shape_of-next c = let A = c.args in
-    let L = c.loop-e in
-    ap length L.invariant ∙ length_filled (dart_step A.tables.counts.now A.tables.sides.now (length A.tables.sides.now)) (2 * start A.tables.counts.now L.e) A.next.now
-
 pub returns : goal.returns
 returns c = let A = c.args in
     let L = c.loop-e in

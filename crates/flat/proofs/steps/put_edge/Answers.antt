@@ -10,24 +10,8 @@ use Rattle.flat.proofs.Tables.{edge_darts, edge_more, edge_none, edge_within, fi
 use Rattle.flat.proofs.Guided.{port_led}
 use Rattle.flat.proofs.steps.put_edge.Goals as goal
 
-pub overflow_mul-a : goal.overflow_mul-a
-overflow_mul-a c = let c-pre = c.requires in
-    omega (arith, edge_within c-pre.tabled _ c-pre.e_in_bounds)
-
-pub overflow_mul-e : goal.overflow_mul-e
-overflow_mul-e c = let c-pre = c.requires in
-    omega (arith, c-pre.e_in_bounds, c-pre.tabled.places.few_edges)
-
 pub port_guide-p-requires : goal.port_guide-p-requires
 port_guide-p-requires c = let c-pre = c.requires in record { tabled = c-pre.tabled; q_le_n = omega (arith, first_within c-pre.tabled _ c-pre.e_in_bounds) }
-
-pub overflow_mul-e-2 : goal.overflow_mul-e-2
-overflow_mul-e-2 c = let c-pre = c.requires in
-    omega (arith, c-pre.e_in_bounds, c-pre.tabled.places.few_edges)
-
-pub overflow_add-e : goal.overflow_add-e
-overflow_add-e c = let c-pre = c.requires in
-    omega (arith, c-pre.e_in_bounds, c-pre.tabled.places.few_edges)
 
 pub port_guide-q-requires : goal.port_guide-q-requires
 port_guide-q-requires c = let c-pre = c.requires in record { tabled = c-pre.tabled; q_le_n = omega (arith, second_within c-pre.tabled _ c-pre.e_in_bounds) }
@@ -40,21 +24,6 @@ step-requires c = let c-port-guide = c.port_guide-p in
     let c-pre = c.requires in
     record { guide_fits = c-port-guide.ensures.fits; darts_bound = omega (arith, c-pre.darts_value, c-pre.tabled.places.few_crossings) }
 
-pub overflow_cast-next : goal.overflow_cast-next
-overflow_cast-next c = omega (arith, c.step.ensures.upper_bound)
-
-pub overflow_mul-next : goal.overflow_mul-next
-overflow_mul-next c = let c-pre = c.requires in
-    omega (arith, edge_within c-pre.tabled _ c-pre.e_in_bounds)
-
-pub overflow_add-next : goal.overflow_add-next
-overflow_add-next c = let c-pre = c.requires in
-    omega (arith, edge_within c-pre.tabled _ c-pre.e_in_bounds)
-
-pub offset_bounds-next-a : goal.offset_bounds-next-a
-offset_bounds-next-a c = let c-pre = c.requires in
-    omega (arith, edge_within c-pre.tabled _ c-pre.e_in_bounds)
-
 pub bounds-next-a : goal.bounds-next-a
 bounds-next-a c = let c-loop = c.loop-t in
     let c-args = c.args in
@@ -65,25 +34,6 @@ pub step-requires-in-loop-t : goal.step-requires-in-loop-t
 step-requires-in-loop-t c = let c-port-guide2 = c.port_guide-q in
     let c-pre = c.requires in
     record { guide_fits = c-port-guide2.ensures.fits; darts_bound = omega (arith, c-pre.darts_value, c-pre.tabled.places.few_crossings) }
-
-pub overflow_cast-next-in-loop-t : goal.overflow_cast-next-in-loop-t
-overflow_cast-next-in-loop-t c = omega (arith, c.step-in-loop-t.ensures.upper_bound)
-
-pub overflow_mul-next-in-loop-t : goal.overflow_mul-next-in-loop-t
-overflow_mul-next-in-loop-t c = let c-pre = c.requires in
-    omega (arith, edge_within c-pre.tabled _ c-pre.e_in_bounds)
-
-pub overflow_add-next-in-loop-t : goal.overflow_add-next-in-loop-t
-overflow_add-next-in-loop-t c = let c-pre = c.requires in
-    omega (arith, edge_within c-pre.tabled _ c-pre.e_in_bounds)
-
-pub overflow_add-next-in-loop-t-2 : goal.overflow_add-next-in-loop-t-2
-overflow_add-next-in-loop-t-2 c = let c-pre = c.requires in
-    omega (arith, edge_within c-pre.tabled _ c-pre.e_in_bounds)
-
-pub offset_bounds-next-a-in-loop-t : goal.offset_bounds-next-a-in-loop-t
-offset_bounds-next-a-in-loop-t c = let c-pre = c.requires in
-    omega (arith, edge_within c-pre.tabled _ c-pre.e_in_bounds)
 
 pub bounds-next-a-in-loop-t : goal.bounds-next-a-in-loop-t
 bounds-next-a-in-loop-t c = let c-loop = c.loop-t in
@@ -97,11 +47,6 @@ loop-t-preserved c = let c-loop = c.loop-t in
     let c-port-guide = c.port_guide-p in
     let c-pre = c.requires in
     edge_more _ _ _ _ _ c-pre.e_in_bounds (omega arith) _ _ _ _ _ c-loop.invariant (omega (arith, start_at c-pre.tabled _ c-pre.e_in_bounds)) (port_led _ _ _ _ _ _ _ c-port-guide.ensures (first_at c-pre.tabled _ c-pre.e_in_bounds) c-pre.darts_value c.step.ensures.value) (port_led _ _ _ _ _ _ _ c-port-guide2.ensures (second_at c-pre.tabled _ c-pre.e_in_bounds) c-pre.darts_value c.step-in-loop-t.ensures.value)
-
-pub shape_of-next : goal.shape_of-next
-shape_of-next c = let c-loop = c.loop-t in
-    let c-args = c.args in
-    ap length c-loop.invariant ∙ length-sets c-args.next.now (2 * start c-args.tables.counts.now c-args.e) (values (λ i. dart_step c-args.tables.counts.now c-args.tables.sides.now (length c-args.tables.sides.now) (2 * start c-args.tables.counts.now c-args.e + i)) (2 * c-loop.t))
 
 pub returns : goal.returns
 returns c = let c-loop = c.loop-t in

@@ -3,19 +3,13 @@ use mathlib.Core.Path.{◌∙◌, ◌≡◌, ap, sym}
 use native.Mathlib.Omega.{arith}
 use lib.ListN.{length}
 use Rattle.counting.specs.Stored.{filled}
-use Rattle.counting.proofs.Stored.{filled_more, filled_none, length_filled}
+use Rattle.counting.proofs.Stored.{filled_more, filled_none}
 use Rattle.grid.specs.Grid.{start}
 use Rattle.grid.proofs.Crossings.{start_mono, start_next, start_zero}
 use Rattle.flat.proofs.steps.put_starts.Goals as goal
 
 pub loop-e-init : goal.loop-e-init
 loop-e-init c = record { sum = sym (start_zero _); stored = filled_none _ _ }
-
-pub bounds-starts-e : goal.bounds-starts-e
-bounds-starts-e c = let c-loop = c.loop-e in
-    let c-args = c.args in
-    let c-pre = c.requires in
-    omega (arith, c-pre.counts_in_bounds, ap length c-loop.invariant.stored, length_filled (start c-args.counts.now) c-loop.e c-args.starts.now)
 
 pub overflow_add-s : goal.overflow_add-s
 overflow_add-s c = let c-loop = c.loop-e in
@@ -27,11 +21,6 @@ pub loop-e-preserved : goal.loop-e-preserved
 loop-e-preserved c = let c-loop = c.loop-e in
     let c-args = c.args in
     record { sum = omega (arith, start_next c-args.counts.now c-loop.e, c-loop.invariant.sum); stored = filled_more (start c-args.counts.now) _ _ _ _ c-loop.invariant.stored c-loop.invariant.sum }
-
-pub shape_of-starts : goal.shape_of-starts
-shape_of-starts c = let c-loop = c.loop-e in
-    let c-args = c.args in
-    ap length c-loop.invariant.stored ∙ length_filled (start c-args.counts.now) c-loop.e c-args.starts.now
 
 pub returns : goal.returns
 returns c = let c-loop = c.loop-e in

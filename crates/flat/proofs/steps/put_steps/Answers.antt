@@ -1,9 +1,8 @@
 use Prim.Native.Nat.{ℕ, ◌*◌}
-use mathlib.Core.Path.{◌∙◌, ap, refl}
+use mathlib.Core.Path.{refl}
 use native.Mathlib.Omega.{arith}
-use lib.ListN.{length, length-replicate, replicate}
-use Rattle.counting.proofs.Stored.{length_filled}
-use Rattle.flat.specs.work.Work.{most_sides, dart_step}
+use lib.ListN.{length-replicate, replicate}
+use Rattle.flat.specs.work.Work.{most_sides}
 use Rattle.flat.proofs.Tables.{porting, tabled}
 use Rattle.flat.proofs.steps.put_steps.Goals as goal
 
@@ -18,10 +17,6 @@ put_all-requires c = let c-put-starts = c.put_starts in
     let c-put-ports = c.put_ports in
     let c-pre = c.requires in
     record { tabled = tabled c-pre.sides (replicate (2 * most_sides) 0) _ (replicate most_sides 0) _ (length-replicate {A = ℕ} (2 * most_sides) 0) c-put-ports.ensures c-put-starts.ensures (length-replicate {A = ℕ} most_sides 0); darts_value = c-pre.darts_value; darts_in_bounds = c-pre.darts_in_bounds }
-
-pub shape_of-next : goal.shape_of-next
-shape_of-next c = let c-args = c.args in
-    ap length c.put_all.ensures ∙ length_filled (dart_step c-args.counts.now c-args.sides.now (length c-args.sides.now)) c-args.darts c-args.next.now
 
 pub returns : goal.returns
 returns c = c.put_all.ensures

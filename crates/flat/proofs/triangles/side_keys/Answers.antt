@@ -15,9 +15,6 @@ pub loop-f-preserved : goal.loop-f-preserved
 loop-f-preserved c = let i : 3 * (c.loop-f.f + 1) ≡ 3 * c.loop-f.f + 3 = omega arith in
     c.put_sides.ensures ∙ rw i (filled_block _ _ 3 _ _ c.loop-f.invariant)
 
-pub shape_of-keys : goal.shape_of-keys
-shape_of-keys c = simp length_filled at (ap length c.loop-f.invariant)
-
 pub returns : goal.returns
 returns c = let e : c.loop-f.f ≡ length c.args.triangles.now / 3 = omega arith in
     rw (← e) c.loop-f.invariant

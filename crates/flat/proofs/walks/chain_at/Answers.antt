@@ -1,41 +1,20 @@
 use mathlib.Core.Path.{◌∙◌, refl, sym}
 use native.Mathlib.Omega.{arith}
-use Rattle.flat.proofs.Walked.{closed_finds, open_finds, ran_entry, ran_lt, ran_read, ran_short}
+use Rattle.flat.proofs.Walked.{closed_finds, open_finds, ran_entry, ran_lt, ran_short}
 use Rattle.flat.proofs.walks.chain_at.Goals as goal
-
-pub overflow_mul-p : goal.overflow_mul-p
-overflow_mul-p c = omega (arith, c.requires.step_table.few, c.requires.p_lt_n)
 
 pub run-w-requires : goal.run-w-requires
 run-w-requires c = record { step_table = c.requires.step_table; d_bound = omega (arith, c.requires.p_lt_n) }
-
-pub offset_bounds-next-a : goal.offset_bounds-next-a
-offset_bounds-next-a c = omega (arith, ran_lt _ _ c.run-w.ensures, c.requires.step_table.few)
-
-pub bounds-next-a : goal.bounds-next-a
-bounds-next-a c = ran_read c.requires.step_table c.run-w.ensures
-
-pub overflow_mul-p-2 : goal.overflow_mul-p-2
-overflow_mul-p-2 c = omega (arith, c.requires.step_table.few, c.requires.p_lt_n)
 
 pub overflow_add-result : goal.overflow_add-result
 overflow_add-result c = let c-run = c.run-w in
     let c-pre = c.requires in
     omega (arith, ran_short _ _ c-pre.step_table.turns c-run.ensures, c-pre.step_table.few)
 
-pub overflow_mul-result : goal.overflow_mul-result
-overflow_mul-result c = omega (arith, c.requires.step_table.few, c.requires.p_lt_n)
-
 pub returns-then-next-a : goal.returns-then-next-a
 returns-then-next-a c = let c-run = c.run-w in
     let c-pre = c.requires in
     closed_finds _ _ c-pre.step_table.turns _ c-pre.p_lt_n c-pre.fresh c-run.ensures (ran_entry c-pre.step_table c-run.ensures refl ∙ c.if-next-a.true)
-
-pub overflow_mul-p-3 : goal.overflow_mul-p-3
-overflow_mul-p-3 c = omega (arith, c.requires.step_table.few, c.requires.p_lt_n)
-
-pub overflow_add-p : goal.overflow_add-p
-overflow_add-p c = omega (arith, c.requires.step_table.few, c.requires.p_lt_n)
 
 pub run-v-requires : goal.run-v-requires
 run-v-requires c = record { step_table = c.requires.step_table; d_bound = omega (arith, c.requires.p_lt_n) }

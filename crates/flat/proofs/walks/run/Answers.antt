@@ -1,24 +1,15 @@
 use mathlib.Core.Path.{refl}
 use native.Mathlib.Omega.{arith}
-use Rattle.flat.proofs.Walked.{run-end, run_home, run_more, run_read, run_short, running_lt, running_none}
+use Rattle.flat.proofs.Walked.{run-end, run_home, run_more, run_short, running_none}
 use Rattle.flat.proofs.walks.run.Goals as goal
 
 pub loop-n-init : goal.loop-n-init
 loop-n-init c = running_none _ _ _ c.requires.d_bound
 
-pub offset_bounds-next-e : goal.offset_bounds-next-e
-offset_bounds-next-e c = omega (arith, running_lt _ _ c.loop-n.invariant, c.requires.step_table.few)
-
-pub bounds-next-e : goal.bounds-next-e
-bounds-next-e c = run_read c.requires.step_table c.loop-n.invariant
-
 pub returns-then-f-d : goal.returns-then-f-d
 returns-then-f-d c = let c-loop = c.loop-n in
     let c-pre = c.requires in
     run_home c-pre.step_table c-loop.invariant _ refl c.if-f-d.true
-
-pub overflow_mul-n : goal.overflow_mul-n
-overflow_mul-n c = omega (arith, c.requires.step_table.few)
 
 pub returns-then-n-f : goal.returns-then-n-f
 returns-then-n-f c = let c-loop = c.loop-n in

@@ -1,7 +1,5 @@
-use mathlib.Core.Path.{◌∙◌, ap}
 use native.Mathlib.Omega.{arith}
-use lib.ListN.{length, length-set}
-use lib.Seq.{length-sets}
+use lib.ListN.{length-set}
 use Rattle.flat.specs.work.Work.{step_in}
 use Rattle.flat.proofs.Walked.{chain_none, chain_room, chain_stored, marked_zero}
 use Rattle.flat.proofs.words.put_chain.Goals as goal
@@ -9,26 +7,8 @@ use Rattle.flat.proofs.words.put_chain.Goals as goal
 pub returns-then-m-eq0 : goal.returns-then-m-eq0
 returns-then-m-eq0 c = record { stored = chain_none _ _ _ _ _ _ _ c.if-m-eq0.true; marked_on = marked_zero _ _ _ c.if-m-eq0.true }
 
-pub offset_bounds-area-at : goal.offset_bounds-area-at
-offset_bounds-area-at c = let c-args = c.args in
-    let c-pre = c.requires in
-    omega (arith, chain_room c-args.n (step_in c-args.n c-args.next.now) c-args.c.closed c-args.c.size c-args.c.start c-args.at _ c.if-m-eq0.false c-pre.start_in_bounds)
-
 pub bounds-area-at : goal.bounds-area-at
 bounds-area-at c = let c-args = c.args in
-    let c-pre = c.requires in
-    omega (arith, chain_room c-args.n (step_in c-args.n c-args.next.now) c-args.c.closed c-args.c.size c-args.c.start c-args.at _ c.if-m-eq0.false c-pre.start_in_bounds)
-
-pub overflow_cast-area : goal.overflow_cast-area
-overflow_cast-area c = omega (arith, c.requires.size_le_n, c.requires.step_table.few)
-
-pub overflow_add-area : goal.overflow_add-area
-overflow_add-area c = let c-args = c.args in
-    let c-pre = c.requires in
-    omega (arith, chain_room c-args.n (step_in c-args.n c-args.next.now) c-args.c.closed c-args.c.size c-args.c.start c-args.at _ c.if-m-eq0.false c-pre.start_in_bounds)
-
-pub offset_bounds-area-at-2 : goal.offset_bounds-area-at-2
-offset_bounds-area-at-2 c = let c-args = c.args in
     let c-pre = c.requires in
     omega (arith, chain_room c-args.n (step_in c-args.n c-args.next.now) c-args.c.closed c-args.c.size c-args.c.start c-args.at _ c.if-m-eq0.false c-pre.start_in_bounds)
 
@@ -37,33 +17,10 @@ bounds-area-at-2 c = let c-args = c.args in
     let c-pre = c.requires in
     simp length-set (omega (arith, chain_room c-args.n (step_in c-args.n c-args.next.now) c-args.c.closed c-args.c.size c-args.c.start c-args.at _ c.if-m-eq0.false c-pre.start_in_bounds))
 
-pub overflow_add-at : goal.overflow_add-at
-overflow_add-at c = let c-args = c.args in
-    let c-pre = c.requires in
-    omega (arith, chain_room c-args.n (step_in c-args.n c-args.next.now) c-args.c.closed c-args.c.size c-args.c.start c-args.at _ c.if-m-eq0.false c-pre.start_in_bounds)
-
 pub put_crossings-requires : goal.put_crossings-requires
 put_crossings-requires c = let c-args = c.args in
     let c-pre = c.requires in
     record { step_table = c-pre.step_table; darts_from = c-pre.darts_from; m_in_bounds = simp length-set (omega (arith, chain_room c-args.n (step_in c-args.n c-args.next.now) c-args.c.closed c-args.c.size c-args.c.start c-args.at _ c.if-m-eq0.false c-pre.start_in_bounds)); n_in_bounds = c-pre.n_in_bounds }
-
-pub overflow_add-result : goal.overflow_add-result
-overflow_add-result c = let c-if1 = c.if-m-eq0 in
-    let c-args = c.args in
-    let c-pre = c.requires in
-    omega (arith, chain_room c-args.n (step_in c-args.n c-args.next.now) c-args.c.closed c-args.c.size c-args.c.start c-args.at _ c-if1.false c-pre.start_in_bounds)
-
-pub overflow_add-result-2 : goal.overflow_add-result-2
-overflow_add-result-2 c = let c-if1 = c.if-m-eq0 in
-    let c-args = c.args in
-    let c-pre = c.requires in
-    omega (arith, chain_room c-args.n (step_in c-args.n c-args.next.now) c-args.c.closed c-args.c.size c-args.c.start c-args.at _ c-if1.false c-pre.start_in_bounds)
-
-pub shape_of-area : goal.shape_of-area
-shape_of-area c = ap length c.put_crossings.ensures.area_after ∙ simp (length-sets, length-set)
-
-pub shape_of-marks : goal.shape_of-marks
-shape_of-marks c = c.put_crossings.ensures.marked_on.same
 
 pub returns : goal.returns
 returns c = record { stored = chain_stored _ _ _ _ _ _ _ _ c.if-m-eq0.false c.put_crossings.ensures.area_after; marked_on = c.put_crossings.ensures.marked_on }

@@ -1,9 +1,8 @@
 use Prim.Native.Nat.{ℕ}
-use mathlib.Core.Path.{◌∙◌, sym}
+use mathlib.Core.Path.{◌∙◌}
 use native.Mathlib.Omega.{arith}
 use lib.ListN.{length-replicate}
 use Rattle.counting.proofs.Tables.{zeros}
-use Rattle.counting.proofs.Stored.{stored_long}
 use Rattle.flat.specs.Chain.{all_chain_words}
 use Rattle.flat.proofs.Walked.{finds_runs, finds_short, swept_fresh, swept_none, writing_all, writing_at, writing_marked, writing_more, writing_none, writing_room}
 use Rattle.flat.proofs.words.put_words.Goals as goal
@@ -13,9 +12,6 @@ unfolding all_chain_words
 loop-p-init c = let c-pre = c.requires in
     (length-replicate {A = ℕ} 65535 0, writing_none _ _ _ _ c-pre.next_in_bounds (swept_none _ _ _ (omega (arith, length-replicate {A = ℕ} 65535 0, c-pre.step_table.few)) (zeros 65535)))
 
-pub bounds-marks-p : goal.bounds-marks-p
-bounds-marks-p c = omega (arith, c.requires.step_table.few)
-
 pub loop-p-preserved-then-marks-p-ne0 : goal.loop-p-preserved-then-marks-p-ne0
 loop-p-preserved-then-marks-p-ne0 c = let c-loop = c.loop-p in
     let c-pre = c.requires in
@@ -23,9 +19,6 @@ loop-p-preserved-then-marks-p-ne0 c = let c-loop = c.loop-p in
 
 pub chain_at-c-requires : goal.chain_at-c-requires
 chain_at-c-requires c = let c-pre = c.requires in record { step_table = c-pre.step_table; p_lt_n = omega arith; fresh = swept_fresh _ _ c-pre.step_table.turns (omega arith) c.loop-p.invariant.1.swept c.if-marks-p-ne0.false }
-
-pub slice_bounds-put_chain-end : goal.slice_bounds-put_chain-end
-slice_bounds-put_chain-end c = sym c.loop-p.invariant.0
 
 pub put_chain-at-requires : goal.put_chain-at-requires
 put_chain-at-requires c = let c-chain-at = c.chain_at-c in
@@ -39,9 +32,6 @@ loop-p-preserved c = let c-put-chain = c.put_chain-at in
     let c-loop = c.loop-p in
     let c-pre = c.requires in
     (c-put-chain.ensures.marked_on.same ∙ c-loop.invariant.0, writing_more _ _ c-pre.step_table.turns c-loop.invariant.1 (omega arith) c-chain-at.ensures c-put-chain.ensures.marked_on c-put-chain.ensures.stored)
-
-pub shape_of-area : goal.shape_of-area
-shape_of-area c = stored_long c.loop-p.invariant.1.stored
 
 pub returns : goal.returns
 returns c = let c-loop = c.loop-p in

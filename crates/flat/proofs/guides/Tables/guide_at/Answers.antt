@@ -4,21 +4,11 @@ use Rattle.flat.proofs.Tables.{place_in, place_read}
 use Rattle.flat.proofs.Guided.{corners_with, guide_made, place_edge}
 use Rattle.flat.proofs.guides.Tables.guide_at.Goals as goal
 
-pub overflow_mul-b : goal.overflow_mul-b
-overflow_mul-b c = omega (arith, c.requires.j_lt_n, c.requires.tabled.places.few)
-
 pub count_at-ab-requires : goal.count_at-ab-requires
 count_at-ab-requires c = record { j_in_bounds = (place_read c.requires.tabled _ (omega (arith, c.requires.j_lt_n))).0; j_in_bounds_2 = (place_read c.requires.tabled _ (omega (arith, c.requires.j_lt_n))).1 }
 
-pub overflow_add-b : goal.overflow_add-b
-overflow_add-b c = omega (arith, c.requires.j_lt_n, c.requires.tabled.places.few)
-
 pub count_at-ac-requires : goal.count_at-ac-requires
 count_at-ac-requires c = let c-pre = c.requires in record { j_in_bounds = (place_read c-pre.tabled _ (place_in c-pre.tabled _ 1 c-pre.j_lt_n (omega arith))).0; j_in_bounds_2 = (place_read c-pre.tabled _ (place_in c-pre.tabled _ 1 c-pre.j_lt_n (omega arith))).1 }
-
-pub overflow_add-b-2 : goal.overflow_add-b-2
-overflow_add-b-2 c = let c-pre = c.requires in
-    omega (arith, c-pre.j_lt_n, c-pre.tabled.places.few)
 
 pub count_at-bc-requires : goal.count_at-bc-requires
 count_at-bc-requires c = let c-pre = c.requires in record { j_in_bounds = (place_read c-pre.tabled _ (place_in c-pre.tabled _ 2 c-pre.j_lt_n (omega arith))).0; j_in_bounds_2 = (place_read c-pre.tabled _ (place_in c-pre.tabled _ 2 c-pre.j_lt_n (omega arith))).1 }
