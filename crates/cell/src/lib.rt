@@ -158,6 +158,14 @@ struct Trip {
     normal: bool,
 }
 
+// The shape in which a loop is drawn: a loop of three as one triangle, a normal loop of four as two, and each other as a fan of as many as it has points.
+#[derive(Clone, Copy)]
+enum Shape {
+    Single,
+    Double,
+    Fan(usize),
+}
+
 // Loop k of the cell, which has n crossings, or none where there are k or fewer. The arrays are the walks'.
 fn loop_in(
     c: Cell,

@@ -1,10 +1,11 @@
 // Triangles by value, from a loop's record: the half-edges of its darts and the crossing numbers of its points.
-ghost use Rattle.std.specs.Prelude.{◌≡◌, true, ◌&&◌, eqb, ◌<◌};
+ghost use Rattle.std.specs.Prelude.{◌≡◌, ◌<◌};
 ghost use Rattle.counting.specs.Lists.{after};
-ghost use Rattle.manifold.specs.Shape.{single, double, fan, shape_of, many_of};
+ghost use Rattle.manifold.specs.Shape.{single, double, fan, shape_of};
+ghost use Rattle.cell.specs.work.Drawn.{length_of, drawn_as, many_in};
 ghost use Rattle.cell.specs.work.Traced.{RecordedLoop, segment_at, traced_triangle};
 
-use super::{Cell, Corner, Side, Triangle};
+use super::{Cell, Corner, Shape, Side, Triangle};
 
 // The place after k in a round of n.
 fn after_of(n: usize, k: usize) -> usize
@@ -106,46 +107,48 @@ pub(crate) fn spoke_of(c: Cell, halves: &[u8], points: &[u32], n: usize, k: usiz
     }
 }
 
-// Whether a loop of n is in two triangles: n is 4, and it is normal.
-pub(crate) fn in_two(n: usize, normal: bool) -> bool
-    ensures { result ≡ (eqb n 4 && normal) }
-{
-    n == 4 && normal
-}
-
-// How many triangles a loop of n gives; `two` says that n is 4 and the loop normal.
-pub(crate) fn many(n: usize, two: bool) -> usize
-    requires { two ≡ true → n ≡ 4 }
-    ensures { result ≡ many_of (shape_of n two) n }
-{
-    if n == 3 {
-        return 1;
+impl Shape {
+    // The shape of a loop of n points.
+    pub(crate) fn of(n: usize, normal: bool) -> Shape
+        ensures { (length_of result ≡ n) × (drawn_as result ≡ shape_of n normal) }
+    {
+        if n == 3 {
+            Shape::Single
+        } else if n == 4 && normal {
+            Shape::Double
+        } else {
+            Shape::Fan(n)
+        }
     }
-    if two { 2 } else { n }
+
+    // How many triangles a loop in this shape gives.
+    pub(crate) fn triangles(self) -> usize
+        ensures { result ≡ many_in self }
+    {
+        match self {
+            Shape::Single => 1,
+            Shape::Double => 2,
+            Shape::Fan(n) => n,
+        }
+    }
 }
 
-// Triangle k of a recorded loop of n.
+// Triangle k of a recorded loop.
 pub(crate) fn triangle_of(
     c: Cell,
     halves: &[u8],
     points: &[u32],
-    n: usize,
-    two: bool,
+    shape: Shape,
     k: usize,
 ) -> Triangle
-    requires recorded_loop { RecordedLoop halves.now points.now n }
-    requires n_value { two ≡ true → n ≡ 4 }
-    requires k_bound { k < many_of (shape_of n two) n }
-    ensures { result ≡ traced_triangle c halves.now points.now n (shape_of n two) k }
+    requires recorded_loop { RecordedLoop halves.now points.now (length_of shape) }
+    requires k_bound { k < many_in shape }
+    ensures { result ≡ traced_triangle c halves.now points.now (length_of shape) (drawn_as shape) k }
 {
-    if n == 3 {
-        return whole_of(c, halves, points);
+    match shape {
+        Shape::Single => whole_of(c, halves, points),
+        Shape::Double if k == 0 => half0_of(c, halves, points),
+        Shape::Double => half1_of(c, halves, points),
+        Shape::Fan(n) => spoke_of(c, halves, points, n, k),
     }
-    if two {
-        if k == 0 {
-            return half0_of(c, halves, points);
-        }
-        return half1_of(c, halves, points);
-    }
-    spoke_of(c, halves, points, n, k)
 }

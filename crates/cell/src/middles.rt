@@ -21,10 +21,12 @@ use place::Place;
 pub(crate) fn fan_of(n: usize, normal: bool) -> usize
     ensures { result ≡ one (has_middle n normal) }
 {
-    match n {
-        0 | 3 => 0,
-        4 if normal => 0,
-        _ => 1,
+    if n == 0 || n == 3 {
+        0
+    } else if n == 4 && normal {
+        0
+    } else {
+        1
     }
 }
 
