@@ -1,7 +1,8 @@
 -- The place where a number was met last, by a table.
-use Prim.Native.Nat.{ℕ, ◌%◌, ◌*◌, ◌+◌, ◌/◌, ◌<◌}
+use Prim.Native.Nat.{ℕ, suc, ◌%◌, ◌*◌, ◌+◌, ◌/◌, ◌<◌}
 use mathlib.Core.Path.{◌∙◌, ◌≡◌, ap, refl}
 use mathlib.Core.List.{List}
+use native.Mathlib.Numerals.{add-one}
 use native.Mathlib.Omega.{arith}
 use lib.ListN.{get_or, length, length-set, set}
 use Rattle.counting.specs.Search.{last}
@@ -28,9 +29,14 @@ module _ {f : ℕ → ℕ} {long : ℕ} {seen : List ℕ} {j : ℕ} (w : Meets f
   meets_more seen' q = rw q (record { room = length-set seen key (j + 1) ∙ w.room; is = seen_more f w.is key e (omega (arith, w.room)) })
 
 -- as places of a key
-pub last_key : (keys : List ℕ) (j r : ℕ) → r ≡ last (labelled (entry keys) (get_or keys j 0)) j → r ≡ last (same_key keys (get_or keys j 0)) j
-unfolding labelled same_key
-last_key keys j r e = e
+module _ (keys : List ℕ) {long : ℕ} {seen : List ℕ} {j : ℕ} (w : Meets (entry keys) long seen j) (lt : get_or keys j 0 < long) where
+  pub meets_no_place : 0 ≡ get_or seen (get_or keys j 0) 0 → 0 ≡ last (same_key keys (get_or keys j 0)) j
+  unfolding labelled same_key
+  meets_no_place q = meets_last w _ refl lt 0 q
+
+  pub meets_place : (p : ℕ) → suc p ≡ get_or seen (get_or keys j 0) 0 → p + 1 ≡ last (same_key keys (get_or keys j 0)) j
+  unfolding labelled same_key
+  meets_place p q = meets_last w _ refl lt (p + 1) (add-one p ∙ q)
 
 -- cells that rows 1 and 3 leave can be numbered
 pub rising_numerable : {cells labels ranks faces same : List ℕ} → RisingCells cells → Fresh (4 * (length cells / 4)) labels → Fresh (highest_node + 1) ranks

@@ -59,7 +59,7 @@ pub(crate) fn first_same(cells: &[u16], same: &[u16], seen: &mut [u16]) -> Optio
     ensures { result ≡ found (repeats cells.now) (cell_count cells.now) }
 {
     for c in 0..cells.len() / 4 {
-        if 0 < earlier(same[4 * c] as usize, c, seen) {
+        if earlier(same[4 * c] as usize, c, seen).is_some() {
             return Some(c);
         }
     }
@@ -97,15 +97,14 @@ fn pair(keys: &[u16], n: usize, seen: &mut [u16], near: &mut [u16]) -> Option<us
     ensures mates { result ≡ None → Mates keys.now n near.new }
 {
     for j in 0..n {
-        let p = earlier(keys[j] as usize, j, seen);
-        if p == 0 {
+        let Some(p) = earlier(keys[j] as usize, j, seen) else {
             continue;
-        }
-        if near[p - 1] != 0 {
+        };
+        if near[p] != 0 {
             return Some(j);
         }
-        near[j] = p as u16;
-        near[p - 1] = (j + 1) as u16;
+        near[j] = (p + 1) as u16;
+        near[p] = (j + 1) as u16;
     }
     None
 }

@@ -5,6 +5,7 @@ ghost use Rattle.grid.specs.work.Walks.{Linked, Linkable, label_at, InSlots, Wal
 ghost use Rattle.grid.specs.work.Runs.{Blanked, NodeChains};
 ghost use Rattle.grid.specs.work.Held.{ChainsNew, ComparableBy, LabelsChained, LowChained, NodesChained, NumerableBy};
 ghost use Rattle.counting.specs.Stored.{filled};
+ghost use Rattle.trees.specs.work.Trees.{link_to};
 
 use crate::scratch::{Chain, Chains, NodeTables, SlotTables};
 
@@ -285,14 +286,14 @@ pub(crate) fn number_cells<const SLOTS: usize, const LABELS: usize, const CELLS:
     );
 }
 
-// What seen has for the number key; from now on it has place j, one more.
-pub(crate) fn earlier(key: usize, j: usize, seen: &mut [u16]) -> usize
+// The last place that seen has for the number key, where there is one; from now on it has place j. The table has one more than a place, and 0 for none.
+pub(crate) fn earlier(key: usize, j: usize, seen: &mut [u16]) -> Option<usize>
     requires key_in_bounds { key < length seen.old }
     requires j_bound { j < 65535 }
-    ensures value { result ≡ get_or seen.old key 0 }
+    ensures value { link_to result ≡ get_or seen.old key 0 }
     ensures seen_after { seen.new ≡ set seen.old key (j + 1) }
 {
-    let p = seen[key];
+    let link = seen[key] as usize;
     seen[key] = (j + 1) as u16;
-    p as usize
+    link.checked_sub(1)
 }
