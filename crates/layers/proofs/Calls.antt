@@ -13,7 +13,8 @@ use Rattle.answer.specs.Refusal.{refusal_numbers}
 use Rattle.answer.specs.declared.Refusal.{Refusal}
 use Rattle.answer.specs.Rows.{or_refuse, Clear}
 use Rattle.counting.specs.Pick.{pick}
-use Rattle.counting.specs.Search.{first, some, found}
+use Rattle.counting.specs.Search.{first, some}
+use Rattle.counting.specs.work.Search.{found}
 use Rattle.counting.specs.Lists.{over}
 use Rattle.counting.specs.Stored.{stored_in}
 use Rattle.counting.specs.work.Stored.{Stored}

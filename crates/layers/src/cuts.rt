@@ -1,6 +1,6 @@
 // Cuts, and the runs between them.
 ghost use Rattle.std.specs.Prelude.{◌≡◌, ◌+◌, ◌≤◌, length};
-ghost use Rattle.counting.specs.Search.{found};
+ghost use Rattle.counting.specs.work.Search.{found};
 ghost use Rattle.layers.specs.Cuts.{run_start, run_end, run_size, bad_cut};
 ghost use Rattle.layers.specs.work.Work.{RunOfCuts};
 
