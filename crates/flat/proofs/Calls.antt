@@ -1,6 +1,6 @@
 -- The chains call, where the check refuses and where it accepts.
 use Rattle.std.specs.Prelude.{Result, Ok, Err}
-use Prim.Native.Nat.{ℕ, ◌*◌, ◌≤◌, ◌<◌}
+use Prim.Native.Nat.{ℕ, ◌*◌, ◌/◌, ◌≤◌, ◌<◌}
 use mathlib.Core.Path.{◌≡◌, sym, ap, ◌∙◌, subst}
 use mathlib.Core.Bool.{false, true}
 use mathlib.Core.List.{List, [], ◌∷◌}
@@ -129,22 +129,38 @@ module _ (G : FlatGrid) (before : List ℕ) (w : ℕ) (e : w ≡ length (chains_
 -- the words of an accepted flat grid, from the table of its step
 module _ (G : FlatGrid) (A : Accepted G) (sides : List ℕ) (S : SidesKnown G sides) (was next : List ℕ) (n : ℕ) (k : n ≡ crossings G.counts)
     (room : 2 * n ≤ length was) (q : next ≡ filled (dart_step G.counts sides (3 * triangles_in G.triangles)) (2 * n) was) where
-  table : Table (dart_step G.counts sides (3 * triangles_in G.triangles)) (2 * crossings G.counts) next
-  table = subst (λ n. Table (dart_step G.counts sides (3 * triangles_in G.triangles)) (2 * n) next) k (filled_table _ (2 * n) was next q room)
+  filled_with : Table (dart_step G.counts sides (3 * triangles_in G.triangles)) (2 * n) next
+  filled_with = filled_table _ (2 * n) was next q room
 
-  pub is_linked : StepTable n next
-  is_linked = rw k (linked G A sides S next table)
+  -- what lies beyond the step's entries is left out
+  abbrev pub entries : List ℕ
+  entries = take (2 * n) next
 
-  pub words_are : all_chain_words n (step_in n next) ≡ chains_words G
+  pub entries_long : length entries ≡ 2 * crossings G.counts
+  entries_long = omega (arith, length-take-le (2 * n) next filled_with.room, k)
+
+  table : Table (dart_step G.counts sides (3 * triangles_in G.triangles)) (2 * crossings G.counts) entries
+  table = record {
+    room = omega (arith, entries_long);
+    at = λ j h. let l : j < 2 * n = omega arith in get_or-take (2 * n) next j 0 l ∙ filled_with.at j l;
+  }
+
+  crossed : length entries / 2 ≡ crossings G.counts
+  crossed = omega (arith, entries_long)
+
+  pub is_linked : StepTable (length entries / 2) entries
+  is_linked = rw crossed (linked G A sides S entries table entries_long)
+
+  pub words_are : all_chain_words (length entries / 2) (step_in (length entries / 2) entries) ≡ chains_words G
   unfolding chains_words
-  words_are = rw (k, along_step G A sides S next table)
+  words_are = rw (crossed, along_step G A sides S entries table)
 
-  pub words_few : length (all_chain_words n (step_in n next)) ≤ 2 * n
-  words_few = rw (k, along_step G A sides S next table) (words_room (crossings G.counts) (step G) (grid_darts G A) (step_moves G A))
+  pub words_few : length (all_chain_words (length entries / 2) (step_in (length entries / 2) entries)) ≤ 2 * n
+  words_few = rw (crossed, along_step G A sides S entries table, k) (words_room (crossings G.counts) (step G) (grid_darts G A) (step_moves G A))
 
   -- made in a list of their own, and then refused or copied
-  module _ (list made : List ℕ) (m : ℕ) (fits : 2 * n ≤ length list) (e : made ≡ sets list 0 (all_chain_words n (step_in n next)))
-      (w : m ≡ length (all_chain_words n (step_in n next))) where
+  module _ (list made : List ℕ) (m : ℕ) (fits : 2 * n ≤ length list) (e : made ≡ sets list 0 (all_chain_words (length entries / 2) (step_in (length entries / 2) entries)))
+      (w : m ≡ length (all_chain_words (length entries / 2) (step_in (length entries / 2) entries))) where
     made_count : m ≡ length (chains_words G)
     made_count = w ∙ ap length words_are
 

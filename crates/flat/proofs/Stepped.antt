@@ -25,6 +25,8 @@ use Rattle.face.proofs.Ends.{edge_lt, edge-of, edge_with}
 use Rattle.grid.specs.Grid.{count_of, crossing, crossings, start}
 use Rattle.counting.specs.work.Tables.{Table, same_key}
 use Rattle.walk.specs.Step as walk
+use Rattle.walk.specs.Darts.{half, rev}
+use Rattle.walk.specs.claims.Claims.{Darts}
 use Rattle.walk.proofs.Step.{face_first, face_second, land_first, land_second}
 use Rattle.flat.specs.FlatGrid.{FlatGrid, edge_number, edge_rank, has_edge, is_edge, triangles_in}
 use Rattle.flat.specs.Accepted.{Accepted, EdgeIs}
@@ -404,5 +406,7 @@ module _ (G : FlatGrid) (A : Accepted G) (sides : List ℕ) (S : SidesKnown G si
       | no l ↦ along_off (crossings G.counts) next d (omega arith) ∙ sym (step_off d (omega arith))
     ])
 
-    pub linked : StepTable (crossings G.counts) next
-    linked = record { few = A.few_crossings; room = T.room; turns = rw along_step (grid_darts G A) }
+    pub linked : length next ≡ 2 * crossings G.counts → StepTable (crossings G.counts) next
+    linked e =
+        let D : Darts (2 * crossings G.counts) (crossings G.counts) (step_in (crossings G.counts) next) rev half = rw along_step (grid_darts G A) in
+        record { few = A.few_crossings; whole = e; back = D.back; apart = D.s_ne }

@@ -21,6 +21,7 @@ use Rattle.walk.specs.Darts.{half, rev, Loop, On}
 use Rattle.walk.specs.claims.Claims.{Darts}
 use Rattle.walk.proofs.Iterate.{it_suc}
 use Rattle.walk.proofs.Curve as curve
+use Rattle.walk.proofs.Step.{rev_darts}
 use Rattle.flat.specs.Chain.{steps, closes, last_dart, path_steps, path_start, is_path, chain_size, chain_start, chain_words, all_chain_words}
 use Rattle.flat.specs.work.Work.{Finds, Fresh, InChain, StepTable, MarkedOn, Ran, DartsFrom, Swept, step_in, size_by, start_by, words_by, words_of}
 use Rattle.flat.proofs.Taken.{loop_steps, on_steps, taken_is}
@@ -432,14 +433,18 @@ module _ (N : ℕ) (s : ℕ → ℕ) (D : Darts (2 * N) N s rev half) where
       let q : at ≡ length (over (chain_words N s) p 0) = omega (arith, C.stored.after) in
       q ∙ ap (λ (p : ℕ). length (over (chain_words N s) p 0)) z
 
+-- the laws of the step that a table holds
+pub turns : {N : ℕ} {next : List ℕ} → StepTable N next → Darts (2 * N) N (step_in N next) rev half
+turns {N} {next} L = rev_darts N (step_in N next) L.back L.apart
+
 -- THE SAME OVER A TABLE, whose entry at e has been read as f
 module _ {N : ℕ} {next : List ℕ} (L : StepTable N next) where
   module _ {d k e : ℕ} (R : Running N (step_in N next) d k e) where
     pub run_read : e < length next
-    run_read = omega (arith, running_lt N (step_in N next) R, L.room)
+    run_read = omega (arith, running_lt N (step_in N next) R, L.whole)
 
     pub run_short : k < N
-    run_short = walk_short N (step_in N next) L.turns R.live R.away
+    run_short = walk_short N (step_in N next) (turns L) R.live R.away
 
     module _ (f : ℕ) (q : f ≡ get_or next e 0) where
       entry : step_in N next e ≡ f
@@ -455,7 +460,7 @@ module _ {N : ℕ} {next : List ℕ} (L : StepTable N next) where
       run_more n l = rw entry at (running_more N (step_in N next) R (λ z. n (sym entry ∙ z)) (rw entry l))
 
   pub ran_read : {d k e : ℕ} → Ran N (step_in N next) d k e → e < length next
-  ran_read R = omega (arith, ran_lt N (step_in N next) R, L.room)
+  ran_read R = omega (arith, ran_lt N (step_in N next) R, L.whole)
 
   pub ran_entry : {d k e f : ℕ} → Ran N (step_in N next) d k e → f ≡ get_or next e 0 → step_in N next e ≡ f
   ran_entry {d} {k} {e} R q = along_at N next e (ran_lt N (step_in N next) R) ∙ sym q
@@ -471,7 +476,7 @@ module _ {N : ℕ} {next : List ℕ} (L : StepTable N next) where
 
   module _ {d m at : ℕ} {was : List ℕ} {e i : ℕ} {area : List ℕ} (R : DartsFrom N (step_in N next) d m) (M : Listing N (step_in N next) d m at was e i area) (l : i < m) where
     pub list_read : e < length next
-    list_read = omega (arith, listing_lt N (step_in N next) M R l, L.room)
+    list_read = omega (arith, listing_lt N (step_in N next) M R l, L.whole)
 
     pub list_few : e < 131070
     list_few = omega (arith, listing_lt N (step_in N next) M R l, L.few)

@@ -1,3 +1,4 @@
 -- What only contracts of parts and proofs cite.
 pub mod Work
 pub mod Held
+pub mod Along

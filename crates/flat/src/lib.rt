@@ -11,6 +11,7 @@ ghost use Rattle.flat.specs.work.Work.{SidesKnown, TracedIn};
 
 use answer::{Refusal, Row};
 use grid::MOST_CROSSINGS;
+use walks::Steps;
 
 mod guides;
 mod join;
@@ -67,7 +68,10 @@ fn trace_in<const ROOM: usize>(
     let mut words = [0u16; ROOM];
     let places = 3 * (grid.triangles.len() / 3);
     steps::put_steps(grid.counts, &sides[..places], 2 * n, &mut next);
-    let m = words::put_words(&next, n, &mut words);
+    let table = Steps {
+        next: &next[..2 * n],
+    };
+    let m = table.put_words(&mut words);
     if area.len() < m {
         return Err(Row::ChainArea.at(m));
     }

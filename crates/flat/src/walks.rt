@@ -1,7 +1,14 @@
 // Walks over a table of the step: the chain of a least crossing.
-ghost use Rattle.std.specs.Prelude.{◌≡◌, ◌+◌, ◌*◌, ◌<◌};
+ghost use Rattle.std.specs.Prelude.{◌≡◌, ◌+◌, ◌*◌, ◌/◌, ◌<◌, length};
 ghost use Rattle.walk.specs.Darts.{rev};
-ghost use Rattle.flat.specs.work.Work.{step_in, StepTable, Ran, Fresh, Finds, size_by, start_by};
+ghost use Rattle.flat.specs.work.Work.{StepTable, Ran, Fresh, Finds, size_by, start_by};
+
+// The table of the step: the dart after each dart, of two to a crossing; their number where there is none.
+#[derive(Clone, Copy)]
+pub(crate) struct Steps<'a> {
+    pub(crate) next: &'a [u32],
+    ghost table: { StepTable (length next.now / 2) next.now },
+}
 
 // A walk from a dart: its steps, and the dart after them.
 #[derive(Clone, Copy)]
@@ -16,28 +23,6 @@ pub(crate) struct Chain {
     pub(crate) closed: u16,
     pub(crate) size: usize,
     pub(crate) start: usize,
-}
-
-// The walk from dart d to the end of its curve, or to the last dart before d comes again.
-fn run(next: &[u32], n: usize, d: usize) -> Walk
-    requires step_table { StepTable n next.now }
-    requires d_bound { d < 2 * n }
-    ensures { Ran n (step_in n next.now) d result.steps result.last }
-{
-    let mut k = 0;
-    let mut e = d;
-    // Stays: a loop, since the next dart comes from the table and not from a range.
-    loop {
-        let f = next[e] as usize;
-        if f == d {
-            return Walk { steps: k, last: e };
-        }
-        if 2 * n <= f {
-            return Walk { steps: k, last: e };
-        }
-        e = f;
-        k += 1;
-    }
 }
 
 // The other dart of a dart's crossing.
@@ -69,31 +54,53 @@ fn path_size(k: usize, l: usize) -> usize
     if k + l == 0 { 0 } else { k + l + 1 }
 }
 
-// The chain whose least crossing is p, if p is in no chain with a lower one.
-pub(crate) fn chain_at(next: &[u32], n: usize, p: usize) -> Chain
-    requires step_table { StepTable n next.now }
-    requires p_lt_n { p < n }
-    requires fresh { Fresh n (step_in n next.now) p }
-    ensures { Finds n (step_in n next.now) p result.closed result.size result.start }
-{
-    let w = run(next, n, 2 * p);
-    let k = w.steps;
-    let a = w.last;
-    if next[a] as usize == 2 * p {
-        return Chain {
-            closed: 1,
-            size: k + 1,
-            start: 2 * p,
-        };
+impl<'a> Steps<'a> {
+    ghost use Rattle.flat.specs.work.Along.{along, crossings_in};
+
+    // The walk from dart d to the end of its curve, or to the last dart before d comes again.
+    fn run(self, d: usize) -> Walk
+        requires { d < 2 * crossings_in self }
+        ensures { Ran (crossings_in self.entry) (along self.entry) d result.steps result.last }
+    {
+        let next = self.next;
+        let mut k = 0;
+        let mut e = d;
+        // Stays: a loop, since the next dart comes from the table and not from a range.
+        loop {
+            let f = next[e] as usize;
+            if f == d || next.len() <= f {
+                return Walk { steps: k, last: e };
+            }
+            e = f;
+            k += 1;
+        }
     }
-    let v = run(next, n, 2 * p + 1);
-    let l = v.steps;
-    let b = v.last;
-    let count = path_size(k, l);
-    let start = lower_end(a, b);
-    Chain {
-        closed: 0,
-        size: count,
-        start,
+
+    // The chain whose least crossing is p, if p is in no chain with a lower one.
+    pub(crate) fn chain_at(self, p: usize) -> Chain
+        requires p_lt_n { p < crossings_in self }
+        requires fresh { Fresh (crossings_in self) (along self) p }
+        ensures { Finds (crossings_in self.entry) (along self.entry) p result.closed result.size result.start }
+    {
+        let w = self.run(2 * p);
+        let k = w.steps;
+        let a = w.last;
+        if self.next[a] as usize == 2 * p {
+            return Chain {
+                closed: 1,
+                size: k + 1,
+                start: 2 * p,
+            };
+        }
+        let v = self.run(2 * p + 1);
+        let l = v.steps;
+        let b = v.last;
+        let count = path_size(k, l);
+        let start = lower_end(a, b);
+        Chain {
+            closed: 0,
+            size: count,
+            start,
+        }
     }
 }

@@ -16,10 +16,14 @@ put_words-m-requires g c =
     let P = c.requires in
     let l = length-replicate {A = ℕ} g.row.ROOM 0 in
     let r : 2 * c.args.n ≤ length (replicate {A = ℕ} g.row.ROOM 0) = omega (arith, l, P.n_in_bounds) in
-    record {
-      step_table = is_linked (lent c.args.grid) P.accepted _ (front_known _ _ P.sides_known) _ _ _ P.n_value r (front_steps (lent c.args.grid) _ P.sides_known _ _ _ c.put_steps.ensures);
-      next_in_bounds = omega (arith, words_few (lent c.args.grid) P.accepted _ (front_known _ _ P.sides_known) _ _ _ P.n_value r (front_steps (lent c.args.grid) _ P.sides_known _ _ _ c.put_steps.ensures), r);
-    }
+    omega (arith, l, words_few (lent c.args.grid) P.accepted _ (front_known _ _ P.sides_known) _ _ _ P.n_value r (front_steps (lent c.args.grid) _ P.sides_known _ _ _ c.put_steps.ensures), P.n_in_bounds)
+
+pub invariant_of-table : goal.invariant_of-table
+invariant_of-table g c =
+    let P = c.requires in
+    let l = length-replicate {A = ℕ} g.row.ROOM 0 in
+    let r : 2 * c.args.n ≤ length (replicate {A = ℕ} g.row.ROOM 0) = omega (arith, l, P.n_in_bounds) in
+    record { table = is_linked (lent c.args.grid) P.accepted _ (front_known _ _ P.sides_known) _ _ _ P.n_value r (front_steps (lent c.args.grid) _ P.sides_known _ _ _ c.put_steps.ensures) }
 
 pub returns-then-area-m : goal.returns-then-area-m
 returns-then-area-m g c =

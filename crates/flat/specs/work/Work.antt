@@ -18,7 +18,6 @@ use Rattle.counting.specs.work.Tables.{Table, same_key}
 use Rattle.grid.specs.work.Work.{found_at}
 use Rattle.grid.specs.work.Shared.{join}
 use Rattle.walk.specs.Darts.{half, rev, On}
-use Rattle.walk.specs.claims.Claims.{Darts}
 use Rattle.flat.specs.Rows.{bad_pairs, rows}
 use Rattle.flat.specs.Answer.{words_answer}
 use Rattle.flat.specs.Chains.{chains_words}
@@ -221,11 +220,12 @@ pub record Porting (sides : List ℕ) (n : ℕ) (ports : List ℕ) : Type 0 wher
 unfoldable pub step_in : ℕ → List ℕ → ℕ → ℕ
 step_in N next d = pick (ltb d (2 * N)) (get_or next d 0) (2 * N)
 
--- the table is one of a step that is undone by turning round
+-- the table is one of a step that is undone by turning round, and never comes back to its crossing
 pub record StepTable (N : ℕ) (next : List ℕ) : Type 0 where
   pub few : N ≤ most_crossings
-  pub room : 2 * N ≤ length next
-  pub turns : Darts (2 * N) N (step_in N next) rev half
+  pub whole : length next ≡ 2 * N
+  pub back : (d : ℕ) → d < 2 * N → step_in N next d < 2 * N → step_in N next (rev (step_in N next d)) ≡ rev d
+  pub apart : (d : ℕ) → d < 2 * N → step_in N next d ≢ rev d
 
 module _ (N : ℕ) (s : ℕ → ℕ) where
   -- k steps lead from d to e, never back to d; the next does, or there is none
