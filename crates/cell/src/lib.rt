@@ -43,8 +43,8 @@ pub use words::{NO_NAME, WORD_COUNT};
 
 // The most crossings of a cell. The arrays of the walks have a place for each; and fewer, where no count is above the second limit: clearing the larger
 // ones costs a small grid more than all else in a cell. Nothing that is answered depends on the second limit.
-// Stays: the arrays go as three slices, made where they are lent, in place of one struct with its size as a const parameter. Such a struct makes each function
-// of the walks once for each size, which the compiler puts into one another no more: to write cells took 1.4 of the time.
+// Stays: the arrays go as three slices, made where they are lent in a block for each size, in place of one struct with its size as a const parameter. Such a
+// struct makes each function of the walks once for each size, which the compiler puts into one another no more: to write cells took 1.4 of the time.
 pub const MOST_IN_CELL: usize = 6 * MOST_COUNT as usize;
 
 const FEW_COUNT: u16 = 255;

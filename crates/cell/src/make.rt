@@ -16,6 +16,7 @@ fn after_of(n: usize, k: usize) -> usize
 }
 
 // Segment k of a recorded loop of n points, by the names of the faces in the cell's slots.
+// Stays: n beside the slices, whose length it is, here and in a fan: for a loop of three or four points it is a constant, and for a fan what its shape carries.
 fn segment_at(names: [u16; 4], halves: &[u8], points: &[u32], n: usize, k: usize) -> Side
     requires recorded_loop { RecordedLoop halves.now points.now n }
     requires k_lt_n { k < n }

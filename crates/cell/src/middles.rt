@@ -21,9 +21,7 @@ use place::Place;
 pub(crate) fn fan_of(n: usize, normal: bool) -> usize
     ensures { result ≡ one (has_middle n normal) }
 {
-    if n == 0 || n == 3 {
-        0
-    } else if n == 4 && normal {
+    if n == 0 || n == 3 || n == 4 && normal {
         0
     } else {
         1

@@ -118,6 +118,7 @@ fn put_part(
 }
 
 // Sizes of arrays for the walks of a cell, so that not much more is cleared than it has crossings.
+// Stays: a block for each size in `write_loops`, as at `FEW_IN_CELL`: a struct with its size as a const parameter was measured slower there.
 pub(crate) const SOME_IN_CELL: usize = 192;
 
 const MANY_IN_CELL: usize = 6144;

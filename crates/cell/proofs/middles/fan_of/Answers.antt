@@ -2,11 +2,8 @@ use mathlib.Core.Logic.{⊎_elim}
 use Rattle.cell.proofs.Fans.{fan_none, fan_three, fan_normal, fan_else}
 use Rattle.cell.proofs.middles.fan_of.Goals as goal
 
-pub returns-then-n-eq3 : goal.returns-then-n-eq3
-returns-then-n-eq3 c = ⊎_elim (fan_none _ _) (λ h. fan_three _ _ h.1) c.if-n-eq3.either
-
 pub returns-then-normal : goal.returns-then-normal
-returns-then-normal c = fan_normal _ _ c.if-n-eq4.true c.if-normal.true
+returns-then-normal c = ⊎_elim (fan_none _ _) (⊎_elim (λ h. fan_three _ _ h.1) (λ h. fan_normal _ _ h.2 h.3)) c.if-normal.either
 
-pub returns-else-n-eq4 : goal.returns-else-n-eq4
-returns-else-n-eq4 c = fan_else _ _ c.if-n-eq3.false.0 c.if-n-eq3.false.1 (λ e. ⊎_elim (λ h. h.1) (λ h. absurd (h e)) c.else-n-eq4.either)
+pub returns-else-normal : goal.returns-else-normal
+returns-else-normal c = ⊎_elim (λ h. fan_else _ _ h.0 h.1 (λ e. h.3)) (λ h. fan_else _ _ h.0 h.1 (λ e. absurd (h.2 e))) c.if-normal.either
