@@ -1,7 +1,6 @@
 -- Answers of calls that can refuse, as lists of numbers. Each crate reads its own enum into this form, and its contracts equate the reading with
 -- the answer that document 01 gives. The form tells answers apart: a result starts with 0, a refusal with its number, which is not 0.
 use Rattle.std.specs.Prelude.{ℕ, Bool, List, [], ◌∷◌, eqb, get_or}
-use Rattle.counting.specs.Pick.{pick}
 
 -- a result, by its values
 abbrev pub result_of : List ℕ → List ℕ
@@ -14,8 +13,3 @@ refusal number place = number ∷ place ∷ []
 -- an answer is a result
 abbrev pub is_result : List ℕ → Bool
 is_result answer = eqb (get_or answer 0 0) 0
-
--- The reading of an enum's refusal. No row has the number 0, and a refusal with it would read as a result: it is given no reading, so that each
--- answer is read from one value alone.
-abbrev pub refused : ℕ → ℕ → List ℕ
-refused row place = pick (eqb row 0) [] (refusal row place)

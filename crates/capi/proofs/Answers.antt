@@ -12,7 +12,7 @@ use Rattle.cases.specs.declared.Case.{Case}
 use Rattle.cases.specs.Answer.{case_numbers}
 use Rattle.cell.specs.declared.Loop.{Loop}
 use Rattle.mesh.specs.Numbers.{loops_numbers}
-use Rattle.capi.specs.Values.{option_values, case_values, booking_values, loop_values}
+use Rattle.capi.specs.work.Values.{option_values, case_values, booking_values, loop_values}
 use Rattle.capi.specs.Written.{Answers}
 
 -- a call that puts the numbers of its answer answers them

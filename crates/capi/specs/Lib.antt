@@ -1,3 +1,3 @@
 pub mod Written
-pub mod Values
 pub mod claims
+pub mod work

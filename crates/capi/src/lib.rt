@@ -4,7 +4,7 @@
 
 ghost use Rattle.std.specs.Prelude.{◌≤◌, ◌≡◌, ℕ, List, [], ◌∷◌, length};
 ghost use Rattle.answer.specs.Refusal.{refusal_numbers, answer_numbers};
-ghost use Rattle.capi.specs.Values.{option_values, case_values, booking_values, loop_values};
+ghost use Rattle.capi.specs.work.Values.{option_values, case_values, booking_values, loop_values};
 ghost use Rattle.capi.specs.Written.{answer_words, if_room, Answers, body_numbers};
 ghost use Rattle.bundle.specs.Record.{kind_number, record_answer};
 ghost use Rattle.bundle.specs.Bundle.{is_taken, read_answer, nodes_of, ends_of, counts_of, leaves};
