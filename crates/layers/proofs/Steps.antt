@@ -51,23 +51,7 @@ module _ (n : ℕ) (cuts : List ℕ) (i : ℕ) where
 pub start_next : (cuts : List ℕ) (i : ℕ) → cut_at cuts i ≡ run_start cuts (i + 1)
 start_next cuts i = rw add-one
 
-pub start_later : (cuts : List ℕ) (r : ℕ) → (r ≡ 0 → ⊥) → cut_at cuts (r - 1) ≡ run_start cuts r
-start_later cuts zero h = absurd (h refl)
-start_later cuts (suc r) h = let e : suc r - 1 ≡ r = omega arith in ap (cut_at cuts) e
-
-pub end_cut : (n : ℕ) (cuts : List ℕ) (r : ℕ) → r < length cuts → cut_at cuts r ≡ run_end n cuts r
-end_cut n cuts r h = sym (get_or-append cuts (n ∷ []) 0 r h)
-
-pub end_last : (n : ℕ) (cuts : List ℕ) (r : ℕ) → r ≡ length cuts → n ≡ run_end n cuts r
-end_last n cuts r e = sym (ap (run_end n cuts) e ∙ get_or-append_seam cuts n [] 0)
-
 -- TABLES
-
-pub base_in : (base x j : ℕ) → base ≤ x → x - base ≡ pick (leb base x) (x - base) j
-base_in base x j h = rw (le-leb base x h)
-
-pub base_out : (base x j : ℕ) → x < base → j ≡ pick (leb base x) (x - base) j
-base_out base x j h = rw (lt-leb base x h)
 
 pub base_small : (base x j m : ℕ) → x < m → j < m → pick (leb base x) (x - base) j < m
 base_small base x j m h k = go (leb base x)
@@ -75,12 +59,6 @@ base_small base x j m h k = go (leb base x)
     go : (b : Bool) → pick b (x - base) j < m
     go true = omega arith
     go false = k
-
-pub counted_in : (m n k : ℕ) → m ≡ n → k ≡ pick (eqb m n) k 0
-counted_in m n k e = rw (eq-eqb m n e)
-
-pub counted_out : (m n k : ℕ) → (m ≡ n → ⊥) → 0 ≡ pick (eqb m n) k 0
-counted_out m n k h = rw (ne_eqb m n h)
 
 pub marked_none : (from m : ℕ) (sides used : List ℕ) → ((e : ℕ) → get_or used e 0 < m) → EdgesMarked from 0 m sides used used
 unfolding used_by

@@ -50,11 +50,6 @@ module _ (cells counts : List ℕ) (nodes fractions : List Float) (needed room :
       let l = lists_fine (clear_since rows 15 a 0 (omega arith)) in
       record { fractions_long = l.0; area_long = l.1; numbers_fine = clear_since rows 16 a; fractions_fine = clear_since rows 17 a }
 
-  -- the rows' answer has a first number
-  pub rows_some : [] ≡ rows_answer cells counts nodes fractions needed room → ⊥
-  unfolding rows_answer
-  rows_some = answer_some (place_rows cells counts nodes fractions needed room) (needed ∷ [])
-
 -- what a result of the places call tells
 pub record Passed (G : Grid) (nodes fractions : List Float) (room : ℕ) : Type 1 where
   pub grid : Sound G
