@@ -266,6 +266,7 @@ fn put_asked(c: Cell, only: usize, area: &mut [u32], at: usize) -> usize
 }
 
 // The same of a cell by its parts. About 183 KB of stack.
+// Stays: a length of 0 for all loops, as the definitions have it (`triangles_with`) and as `cell::write_loops` takes it, to which it goes on.
 pub fn write_part(
     counts: [u16; 6],
     starts: [u32; 6],

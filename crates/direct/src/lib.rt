@@ -176,7 +176,9 @@ fn half1_of(c: Cell, g0: u32, g2: u32, g3: u32, s2: usize, s3: usize) -> Triangl
 }
 
 impl LevelCell {
-    // Writes the triangles of n loops of three: they have room from index `at` on. Answers the next index.
+    // Writes the triangles of n loops of three: they have room from index `at` on. Answers the next index. Inlined, here and below, so that the compiler knows
+    // the slots of whole cells and reads no row again for each loop (SPEED.md).
+    #[inline(always)]
     fn put_threes(&self, n: u32, loops: Threes, area: &mut [u32], at: usize) -> usize
         requires long { Long loops.x n × Long loops.y n × Long loops.z n }
         requires n_in_bounds { at + word_count * n ≤ length area.old }
@@ -196,6 +198,7 @@ impl LevelCell {
     }
 
     // The same of n loops of four.
+    #[inline(always)]
     fn put_fours(&self, n: u32, loops: Fours, area: &mut [u32], at: usize) -> usize
         requires long { Long loops.x n × Long loops.y n × Long loops.z n × Long loops.u n }
         requires n_in_bounds { at + word_count * (2 * n) ≤ length area.old }
@@ -227,8 +230,7 @@ fn start_of(n: u32, up: bool) -> u32
 }
 
 impl LevelCell {
-    // Writes the triangles of the loops round the node a that start on its edge to b and go on to c and d, outwards from a or inwards. Inlined, here and below,
-    // so that the compiler knows the positions of whole cells (SPEED.md).
+    // Writes the triangles of the loops round the node a that start on its edge to b and go on to c and d, outwards from a or inwards.
     #[inline(always)]
     pub(crate) fn put_round(&self, up: bool, nodes: Nodes, area: &mut [u32], at: usize) -> usize
         requires { at + length (all_words (round_loops self.now.cell up nodes)) ≤ length area.old }

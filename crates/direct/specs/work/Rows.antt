@@ -77,12 +77,6 @@ pub record PlainNumbers (w : ℕ → ℕ) (own : List ℕ) (n : ℕ) : Type 0 wh
   pub own_are : AreOwn w own
   pub triangles_are : n ≡ booked w
 
--- a cell with six counts, and six starts within their limit
-pub record Placed (c : Cell) : Type 0 where
-  pub near : Near c
-  pub counts_six : length c.counts ≡ 6
-  pub starts_six : length c.starts ≡ 6
-
 -- the first numbers s k of the edges k rise
 unfoldable pub is_rising : (ℕ → ℕ) → Bool
 is_rising s = every (λ k. leb (s k) (s (suc k))) 5
