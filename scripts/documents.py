@@ -312,7 +312,7 @@ CHANGES = [
     ("docs/DEMAND3.md", "`RingsHappen`", "`RingsHappened`"),
     ("docs/CONTRACTS.md", "`face_join`", "`face_joined`"),
     ("docs/ARCHITECTURE.md", "| `host` |", "| `hosts` |"),
-    ("crates.txt", "host staticlib: bundle", "host staticlib: bundle grid"),
+    ("crates.txt", "host staticlib: answer bundle", "host staticlib: answer bundle grid"),
     ("docs/DECISIONS.md", "- **2.2 ", "- **2.3 "),
     ("VERSION", ".", ".1"),
     ("tools/Cargo.toml", 'version = "', 'version = "1'),
