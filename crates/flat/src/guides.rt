@@ -3,8 +3,7 @@ ghost use Rattle.std.specs.Prelude.{◌≡◌, ◌+◌, ◌*◌, ◌<◌, ◌≤
 ghost use Rattle.face.specs.work.Corners.{corner_list};
 ghost use Rattle.face.specs.claims.Ends.{End};
 ghost use Rattle.grid.specs.Grid.{crossings};
-ghost use Rattle.flat.specs.work.Work.{lane_step, LaneFits, guide_step, GuideFits, corners_at};
-ghost use Rattle.flat.specs.work.Held.{Held, count_in, land_in, LaneIn, GuidesIn, PortGuidesIn};
+ghost use Rattle.flat.specs.work.Work.{lane_step, LaneFits, guide_step, GuideFits, corners_at, Tabled};
 
 use crate::join::flat_corners;
 use face::{CornerCounts, Stand, stand_of};
@@ -74,9 +73,12 @@ pub(crate) struct Tables<'a> {
     pub(crate) sides: &'a [usize],
     pub(crate) ports: &'a [u16],
     pub(crate) starts: &'a [u32],
+    ghost tabled: { Tabled counts.now sides.now (length sides.now) ports.now starts.now },
 }
 
 impl<'a> Tables<'a> {
+    ghost use Rattle.flat.specs.work.Held.{count_in, land_in, LaneIn, GuidesIn, PortGuidesIn};
+
     // The count of the edge at place j.
     fn count_at(self, j: usize) -> u16
         requires j_in_bounds { j < length self.sides.now }
@@ -89,7 +91,6 @@ impl<'a> Tables<'a> {
 
     // The dart that goes on from crossing t of the edge at place j, come to by the triangle of that place; also for the t after the last.
     fn land(self, j: usize, t: usize) -> usize
-        requires tabled { Held self }
         requires j_lt_n { j < length self.sides.now }
         requires t_bound { t ≤ count_in self j }
         ensures value { result ≡ land_in self.entry j t }
@@ -103,7 +104,6 @@ impl<'a> Tables<'a> {
 
     // The lane of edge e at its end w, in the triangle whose first place is b and whose corner counts are c.
     fn lane_at(self, b: usize, c: CornerCounts, w: u32, e: u32) -> Lane
-        requires tabled { Held self }
         requires b_bound { b + 2 < length self.sides.now }
         requires c_value { corner_list c ≡ corners_at self.counts.now self.sides.now b }
         requires end { End w e }
@@ -129,7 +129,6 @@ impl<'a> Tables<'a> {
 
     // The guide of the edge at place j, in the triangle of that place.
     fn guide_at(self, j: usize) -> Guide
-        requires tabled { Held self }
         requires j_lt_n { j < length self.sides.now }
         ensures { GuidesIn self.entry j result }
     {
@@ -153,7 +152,6 @@ impl<'a> Tables<'a> {
 
     // The guide by a port, that is by one more than a place; one without crossings where there is no triangle.
     pub(crate) fn port_guide(self, q: usize) -> Guide
-        requires tabled { Held self }
         requires q_le_n { q ≤ length self.sides.now }
         ensures { PortGuidesIn self.entry q result }
     {

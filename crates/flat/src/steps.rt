@@ -7,7 +7,7 @@ ghost use Rattle.grid.specs.Grid.{count_of, crossings, start};
 ghost use Rattle.slots.specs.Limits.{most_crossings};
 ghost use Rattle.counting.specs.work.Tables.{Table};
 ghost use Rattle.flat.specs.work.Work.{port_at, dart_step, Sides, Porting};
-ghost use Rattle.flat.specs.work.Held.{Held, step_by};
+ghost use Rattle.flat.specs.work.Held.{step_by};
 
 use crate::guides::Tables;
 use crate::{MOST_PORTS, MOST_SIDES};
@@ -42,7 +42,6 @@ fn put_starts(counts: &[u16], starts: &mut [u32])
 
 // The steps of the darts of edge e.
 fn put_edge(tables: Tables, darts: usize, e: usize, next: &mut [u32])
-    requires tabled { Held tables }
     requires darts_value { darts ≡ 2 * crossings tables.counts.now }
     requires e_in_bounds { e < length tables.counts.now }
     requires darts_in_bounds { darts ≤ length next.old }
@@ -60,7 +59,6 @@ fn put_edge(tables: Tables, darts: usize, e: usize, next: &mut [u32])
 
 // The steps of all darts.
 fn put_all(tables: Tables, darts: usize, next: &mut [u32])
-    requires tabled { Held tables }
     requires darts_value { darts ≡ 2 * crossings tables.counts.now }
     requires darts_in_bounds { darts ≤ length next.old }
     ensures { next.new ≡ filled (step_by tables.entry) darts next.old }

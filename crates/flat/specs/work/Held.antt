@@ -3,11 +3,7 @@ use Rattle.std.specs.Prelude.{ℕ, length}
 use Rattle.flat.specs.declared.guides.Tables.{Tables}
 use Rattle.flat.specs.declared.guides.Guide.{Guide}
 use Rattle.flat.specs.declared.guides.Lane.{Lane}
-use Rattle.flat.specs.work.Work.{count_at_place, land_at, dart_step, Tabled, LaneOf, Guides, PortGuides}
-
--- the tables hold what they are for
-abbrev pub Held : Tables → Type 0
-Held t = Tabled t.counts.now t.sides.now (length t.sides.now) t.ports.now t.starts.now
+use Rattle.flat.specs.work.Work.{count_at_place, land_at, dart_step, LaneOf, Guides, PortGuides}
 
 -- what is read from them
 abbrev pub count_in : Tables → ℕ → ℕ

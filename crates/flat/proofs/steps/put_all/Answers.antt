@@ -19,7 +19,7 @@ pub put_edge-requires : goal.put_edge-requires
 put_edge-requires c = let P = c.requires in
     let A = c.args in
     let L = c.loop-e in
-    record { tabled = P.tabled; darts_value = P.darts_value; e_in_bounds = omega arith; darts_in_bounds = omega (arith, P.darts_in_bounds, ap length L.invariant, length_filled (dart_step A.tables.counts.now A.tables.sides.now (length A.tables.sides.now)) (2 * start A.tables.counts.now L.e) A.next.now) }
+    record { darts_value = P.darts_value; e_in_bounds = omega arith; darts_in_bounds = omega (arith, P.darts_in_bounds, ap length L.invariant, length_filled (dart_step A.tables.counts.now A.tables.sides.now (length A.tables.sides.now)) (2 * start A.tables.counts.now L.e) A.next.now) }
 
 pub loop-e-preserved : goal.loop-e-preserved
 loop-e-preserved c = let c-loop = c.loop-e in

@@ -12,11 +12,11 @@ put_ports-requires c = porting c.requires.sides _ refl (length-replicate {A = �
 pub put_starts-requires : goal.put_starts-requires
 put_starts-requires c = let c-pre = c.requires in record { counts_in_bounds = omega (arith, c-pre.sides.few_edges, length-replicate {A = ℕ} most_sides 0); counts_bound = c-pre.sides.few_crossings }
 
-pub put_all-requires : goal.put_all-requires
-put_all-requires c = let c-put-starts = c.put_starts in
+pub invariant_of-tables : goal.invariant_of-tables
+invariant_of-tables c = let c-put-starts = c.put_starts in
     let c-put-ports = c.put_ports in
     let c-pre = c.requires in
-    record { tabled = tabled c-pre.sides (replicate (2 * most_sides) 0) _ (replicate most_sides 0) _ (length-replicate {A = ℕ} (2 * most_sides) 0) c-put-ports.ensures c-put-starts.ensures (length-replicate {A = ℕ} most_sides 0); darts_value = c-pre.darts_value; darts_in_bounds = c-pre.darts_in_bounds }
+    record { tabled = tabled c-pre.sides (replicate (2 * most_sides) 0) _ (replicate most_sides 0) _ (length-replicate {A = ℕ} (2 * most_sides) 0) c-put-ports.ensures c-put-starts.ensures (length-replicate {A = ℕ} most_sides 0) }
 
 pub returns : goal.returns
 returns c = c.put_all.ensures
