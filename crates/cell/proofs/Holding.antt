@@ -26,7 +26,7 @@ use Rattle.cell.proofs.Taken.{dart_leads, traced_loop, asked_is, asked_not}
 use Rattle.cell.proofs.Storing.{words_of, written_more}
 
 module _ {c : Cell} {p n : ℕ} {b : Bool} {halves points : List ℕ} (L : Looped c p n b halves points) where
-  pub looped_traced : RecordedLoop halves points n
+  looped_traced : RecordedLoop halves points n
   looped_traced = record {
     few = omega (arith, L.few);
     halves_long = looped_halves L;

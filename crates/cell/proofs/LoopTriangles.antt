@@ -1,4 +1,4 @@
--- The triangles of a recorded loop, by the branches of the code.
+-- The triangles of a recorded loop: how many there are, and each in its place.
 use Prim.Native.Nat.{ℕ, suc, ◌<◌}
 use mathlib.Core.Path.{◌≡◌, sym, ap, ◌∙◌, subst}
 use mathlib.Core.List.{List, ◌∷◌}
