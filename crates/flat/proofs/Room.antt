@@ -16,7 +16,7 @@ use Rattle.walk.specs.claims.Claims.{Darts}
 use Rattle.walk.proofs.Iterate.{all_orbit, length_orbit}
 use Rattle.flat.specs.Chain.{closes, chain_size, chain_start, darts_at, chain_darts, chain_words, all_chain_words}
 use Rattle.flat.proofs.Once.{chain_laws, most}
-use Rattle.flat.proofs.Walked.{finds_runs}
+use Rattle.flat.proofs.Walked.{chain_runs}
 
 over_twice : (f g : ℕ → List ℕ) (n p : ℕ) → ((q : ℕ) → q < p + n → length (f q) ≤ 2 * length (g q)) → length (over f n p) ≤ 2 * length (over g n p)
 unfolding over
@@ -58,7 +58,7 @@ module _ (N : ℕ) (s : ℕ → ℕ) (D : Darts (2 * N) N s rev half) (moves : (
   chain_within p h =
       all_orbit (λ d. half d < N) s (chain_size N s p) (chain_start N s p)
       (λ i l. D.cr_lt (it s i (chain_start N s p))
-      (finds_runs N s D h (record { size_is = refl; start_is = λ _. refl; closed_is = λ _. refl }) i l))
+      (chain_runs N s D p h i l))
 
   pub words_room : length (all_chain_words N s) ≤ 2 * N
   unfolding all_chain_words chain_darts

@@ -1,4 +1,5 @@
 -- Walks over a table of the step, and the chain that they find.
+use Rattle.std.specs.Prelude.{Option, None}
 use Prim.Native.Nat.{ℕ, suc, ◌+◌, ◌*◌, ◌/◌, ◌≤◌, ◌<◌}
 use mathlib.Core.Path.{◌≡◌, refl, sym, ap, ◌∙◌, subst}
 use mathlib.Core.Logic.{◌⊎◌, ◌≢◌, inl, inr, ⊎_elim}
@@ -6,11 +7,9 @@ use mathlib.Core.Bool.{Bool, true, false}
 use mathlib.Core.List.{List, []}
 use native.Mathlib.Decide.{dec_lt, ℕ_discrete}
 use native.Mathlib.Omega.{arith}
-use lib.Dec.{eqb}
 use lib.ListN.{get_or, length, length-set, set}
 use lib.Seq.{get_or-set_other, get_or-set_same, length-sets, sets}
 use borrow.Author.Tests.{eq-eqb, lt-ltb, le-ltb, ne_eqb}
-use Rattle.counting.specs.Pick.{pick}
 use Rattle.counting.specs.Lists.{one, over, values, it}
 use Rattle.counting.specs.work.Stored.{Stored}
 use Rattle.counting.proofs.Below.{trichotomy}
@@ -23,7 +22,8 @@ use Rattle.walk.proofs.Iterate.{it_suc}
 use Rattle.walk.proofs.Curve as curve
 use Rattle.walk.proofs.Step.{rev_darts}
 use Rattle.flat.specs.Chain.{steps, closes, last_dart, path_steps, path_start, is_path, chain_size, chain_start, chain_words, all_chain_words}
-use Rattle.flat.specs.work.Work.{Finds, Fresh, InChain, StepTable, MarkedOn, Ran, DartsFrom, Swept, step_in, size_by, start_by, words_by, words_of}
+use Rattle.flat.specs.declared.walks.Chain.{Chain}
+use Rattle.flat.specs.work.Work.{ChainOf, Finds, Fresh, InChain, StepTable, MarkedOn, Ran, DartsFrom, Swept, step_in, start_by, words_by}
 use Rattle.flat.proofs.Taken.{loop_steps, on_steps, taken_is}
 use Rattle.flat.proofs.Curves.{closed_loop, closed_start, found, held, open_none, open_size, open_start}
 use Rattle.flat.proofs.Once.{one_chain}
@@ -188,12 +188,9 @@ module _ (N : ℕ) (s : ℕ → ℕ) where
   writing_none was marks h w = record { within = omega arith; fits = h; stored = stored_none was 0; swept = w }
 
 -- the number of words
-pub words_length : (N : ℕ) (s : ℕ → ℕ) (closed size start : ℕ) → length (words_by N s closed size start) ≡ words_of size
-unfolding words_by words_of
-words_length N s closed size start = elim (ℕ_discrete size 0) [
-  | yes z ↦ rw (eq-eqb size 0 z)
-  | no z ↦ rw (ne_eqb size 0 z) (omega (arith, length_singles (λ i. half (it s i start)) size 0))
-]
+pub words_length : (N : ℕ) (s : ℕ → ℕ) (c : Chain) → length (words_by N s c) ≡ c.size + 2
+unfolding words_by
+words_length N s c = omega (arith, length_singles (λ i. half (it s i c.start)) c.size 0)
 
 module _ (N : ℕ) (s : ℕ → ℕ) (D : Darts (2 * N) N s rev half) where
   -- a walk has fewer steps than there are crossings
@@ -246,7 +243,7 @@ module _ (N : ℕ) (s : ℕ → ℕ) (D : Darts (2 * N) N s rev half) where
     first_half : half (2 * p) ≡ p
     first_half = omega arith
 
-    pub closed_finds : {k e : ℕ} → Ran N s (2 * p) k e → s e ≡ 2 * p → Finds N s p 1 (k + 1) (2 * p)
+    pub closed_finds : {k e : ℕ} → Ran N s (2 * p) k e → s e ≡ 2 * p → ChainOf N s p (record { closed = true; size = k + 1; start = 2 * p })
     unfolding closes it
     closed_finds {k} {e} R q =
         let L = ran_loop R q in
@@ -254,9 +251,10 @@ module _ (N : ℕ) (s : ℕ → ℕ) (D : Darts (2 * N) N s rev half) where
         let z = found_here (2 * p) (omega arith) first_half (L.live 1 (omega arith)) in
         let K = (closed_loop N s D p h z c).0 in
         record {
+          some = z;
           size_is = omega (arith, curve.loop_length (2 * N) N s rev half D L K);
-          start_is = λ l. sym (closed_start N s D p c);
-          closed_is = λ l. sym (ap one c);
+          start_is = sym (closed_start N s D p c);
+          closed_is = sym c;
         }
 
     module _ {k e l f : ℕ} (R : Ran N s (2 * p) k e) (T : Ran N s (2 * p + 1) l f) (stops : s e ≢ 2 * p) where
@@ -300,22 +298,22 @@ module _ (N : ℕ) (s : ℕ → ℕ) (D : Darts (2 * N) N s rev half) where
         | no m ↦ found_here (2 * p + 1) (omega arith) (second_half ∙ first_half) (T.live 1 (omega arith))
       ]
 
-      size_same : chain_size N s p ≡ size_by k l
-      unfolding size_by
-      size_same = elim (ℕ_discrete (k + l) 0) [
-        | yes z ↦ open_none N s D p open_here (none z) ∙ rw (eq-eqb (k + l) 0 z)
-        | no z ↦ go (is_path N s p) refl z
-      ]
-        where
-          go : (b : Bool) → is_path N s p ≡ b → k + l ≢ 0 → chain_size N s p ≡ pick (eqb (k + l) 0) 0 (k + l + 1)
-          go true q z = open_size N s D p open_here q ∙ rw (ne_eqb (k + l) 0 z) (omega (arith, path_is))
-          go false q z = absurd (omega (arith, walks (omega arith), open_none N s D p open_here q))
+      pub none_finds : k + l ≡ 0 → chain_size N s p ≡ 0
+      none_finds z = open_none N s D p open_here (none z)
 
-      pub open_finds : Finds N s p 0 (size_by k l) (start_by e f)
-      open_finds = record {
-        size_is = sym size_same;
-        start_is = λ m. sym (open_start N s D p open_here ∙ start_same);
-        closed_is = λ m. sym (ap one open_here);
+      size_same : k + l ≢ 0 → k + l + 1 ≡ chain_size N s p
+      size_same z = go (is_path N s p) refl
+        where
+          go : (b : Bool) → is_path N s p ≡ b → k + l + 1 ≡ chain_size N s p
+          go true q = omega (arith, open_size N s D p open_here q, path_is)
+          go false q = absurd (omega (arith, walks (omega arith), open_none N s D p open_here q))
+
+      pub open_finds : k + l ≢ 0 → ChainOf N s p (record { closed = false; size = k + l + 1; start = start_by e f })
+      open_finds z = record {
+        some = omega (arith, size_same z);
+        size_is = size_same z;
+        start_is = sym (open_start N s D p open_here ∙ start_same);
+        closed_is = sym open_here;
       }
 
   -- no chain has more crossings than there are
@@ -328,27 +326,28 @@ module _ (N : ℕ) (s : ℕ → ℕ) (D : Darts (2 * N) N s rev half) where
     | no l ↦ omega arith
   ]
 
-  -- WHAT IS FOUND
-  module _ {p closed size start : ℕ} (h : p < N) (C : Finds N s p closed size start) where
-    pub finds_runs : DartsFrom N s start size
-    finds_runs i l =
-        let e = C.start_is (omega arith) in
-        rw e ((held N s D p h (omega (arith, C.size_is))).darted.live i (omega (arith, C.size_is)))
+  -- none is found
+  pub finds_none : (p : ℕ) {o : Option Chain} → Finds N s p o → o ≡ None → chain_size N s p ≡ 0
+  finds_none p F e = subst (Finds N s p) e F
 
-    pub finds_short : size ≤ N
+  -- its darts
+  pub chain_runs : (p : ℕ) → p < N → DartsFrom N s (chain_start N s p) (chain_size N s p)
+  chain_runs p h i l = (held N s D p h (omega arith)).darted.live i (omega arith)
+
+  -- WHAT IS FOUND
+  module _ {p : ℕ} {c : Chain} (h : p < N) (C : ChainOf N s p c) where
+    pub finds_runs : DartsFrom N s c.start c.size
+    finds_runs = rw (C.start_is, C.size_is) (chain_runs p h)
+
+    pub finds_short : c.size ≤ N
     finds_short = omega (arith, C.size_is, chain_short p h)
 
-    pub finds_words : words_by N s closed size start ≡ chain_words N s p
+    pub finds_words : words_by N s c ≡ chain_words N s p
     unfolding words_by chain_words
-    finds_words = elim (ℕ_discrete size 0) [
-      | yes z ↦ rw (eq-eqb size 0 z, eq-eqb (chain_size N s p) 0 (sym C.size_is ∙ z))
-      | no z ↦
-          let l : 0 < size = omega arith in
-          rw (ne_eqb size 0 z, ne_eqb (chain_size N s p) 0 (λ q. z (C.size_is ∙ q)), C.closed_is l, C.start_is l, C.size_is)
-    ]
+    finds_words = rw (ne_eqb (chain_size N s p) 0 (λ q. omega (arith, C.some)), C.closed_is, C.start_is, C.size_is)
 
     -- the marks of the chain make those of all chains up to it
-    pub finds_swept : {was marks : List ℕ} → Swept N s p was → MarkedOn N s start size was marks → Swept N s (p + 1) marks
+    pub finds_swept : {was marks : List ℕ} → Swept N s p was → MarkedOn N s c.start c.size was marks → Swept N s (p + 1) marks
     finds_swept {was} {marks} W M = record {
       room = omega (arith, W.room, M.same);
       hit = λ q x l lx o. elim (dec_lt q p) [
@@ -364,11 +363,11 @@ module _ (N : ℕ) (s : ℕ → ℕ) (D : Darts (2 * N) N s rev half) where
       ];
     }
       where
-        here : {x : ℕ} → InChain N s p x → On s half start size x
-        here o = rw (C.size_is, C.start_is (omega (arith, C.size_is, o.at_lt))) o
+        here : {x : ℕ} → InChain N s p x → On s half c.start c.size x
+        here o = rw (C.size_is, C.start_is) o
 
-        there : {x : ℕ} → On s half start size x → InChain N s p x
-        there o = rw (← C.size_is, ← C.start_is (omega (arith, o.at_lt))) o
+        there : {x : ℕ} → On s half c.start c.size x → InChain N s p x
+        there o = rw (← C.size_is, ← C.start_is) o
 
   -- MARKS OVER ALL CROSSINGS
   module _ {p : ℕ} {marks : List ℕ} (h : p < N) (W : Swept N s p marks) where
@@ -377,23 +376,23 @@ module _ (N : ℕ) (s : ℕ → ℕ) (D : Darts (2 * N) N s rev half) where
     swept_fresh z q l o = omega (arith, W.hit q p l h o)
 
     -- one with a mark is no least crossing
-    marked_none : get_or marks p 0 ≢ 0 → chain_size N s p ≡ 0
+    pub marked_none : get_or marks p 0 ≢ 0 → chain_size N s p ≡ 0
     marked_none n = elim (ℕ_discrete (chain_size N s p) 0) [
       | yes z ↦ z
       | no z ↦ absurd (⊎_elim n
           (λ w. omega (arith, w.1, one_chain N s D w.0 p p (omega (arith, w.1)) h w.2 (held N s D p h (omega arith)).has)) (W.only p h))
     ]
 
-    pub marked_words : get_or marks p 0 ≢ 0 → chain_words N s p ≡ []
+    no_words : chain_size N s p ≡ 0 → chain_words N s p ≡ []
     unfolding chain_words
-    marked_words n = rw (eq-eqb (chain_size N s p) 0 (marked_none n))
+    no_words e = rw (eq-eqb (chain_size N s p) 0 e)
 
-    pub marked_swept : get_or marks p 0 ≢ 0 → Swept N s (p + 1) marks
-    marked_swept n = record {
+    none_swept : chain_size N s p ≡ 0 → Swept N s (p + 1) marks
+    none_swept e = record {
       room = W.room;
       hit = λ q x l lx o. elim (dec_lt q p) [
         | yes m ↦ W.hit q x m lx o
-        | no m ↦ let z : q ≡ p = omega arith in absurd (omega (arith, o.at_lt, ap (chain_size N s) z, marked_none n))
+        | no m ↦ let z : q ≡ p = omega arith in absurd (omega (arith, o.at_lt, ap (chain_size N s) z, e))
       ];
       only = λ x lx. elim (W.only x lx) [
         | inl z ↦ inl z
@@ -403,19 +402,22 @@ module _ (N : ℕ) (s : ℕ → ℕ) (D : Darts (2 * N) N s rev half) where
 
   -- ONE MORE CROSSING: it has a mark, or its chain is found
   module _ {was area : List ℕ} {p at : ℕ} {marks : List ℕ} (C : Writing N s was area p at marks) (h : p < N) where
-    pub writing_marked : get_or marks p 0 ≢ 0 → Writing N s was area (p + 1) at marks
-    writing_marked n = record {
+    pub writing_none_at : chain_size N s p ≡ 0 → Writing N s was area (p + 1) at marks
+    writing_none_at e = record {
       within = omega arith;
       fits = C.fits;
-      stored = stored_more (chain_words N s) p C.stored (rw (marked_words h C.swept n) (stored_none area at));
-      swept = marked_swept h C.swept n;
+      stored = stored_more (chain_words N s) p C.stored (rw (no_words h C.swept e) (stored_none area at));
+      swept = none_swept h C.swept e;
     }
 
-    pub writing_room : {closed size start : ℕ} → Finds N s p closed size start → at + length (words_by N s closed size start) ≤ length area
+    pub writing_marked : get_or marks p 0 ≢ 0 → Writing N s was area (p + 1) at marks
+    writing_marked n = writing_none_at (marked_none h C.swept n)
+
+    pub writing_room : {c : Chain} → ChainOf N s p c → at + length (words_by N s c) ≤ length area
     writing_room F = rw (finds_words h F) (stored_fits (chain_words N s) N p C.stored h (omega (arith, C.fits)))
 
-    pub writing_more : {closed size start next : ℕ} {marks' area' : List ℕ} → Finds N s p closed size start → MarkedOn N s start size marks marks'
-        → Stored area at (words_by N s closed size start) area' next → Writing N s was area' (p + 1) next marks'
+    pub writing_more : {c : Chain} {next : ℕ} {marks' area' : List ℕ} → ChainOf N s p c → MarkedOn N s c.start c.size marks marks'
+        → Stored area at (words_by N s c) area' next → Writing N s was area' (p + 1) next marks'
     writing_more F M S = record {
       within = omega arith;
       fits = C.fits;
@@ -486,27 +488,19 @@ module _ {N : ℕ} {next : List ℕ} (L : StepTable N next) where
         let z : step_in N next e ≡ f = along_at N next e (listing_lt N (step_in N next) M R l) ∙ sym q in
         rw z at (listing_more N (step_in N next) M l)
 
-pub words_some : (m : ℕ) → m ≢ 0 → m + 2 ≡ words_of m
-unfolding words_of
-words_some m h = rw (ne_eqb m 0 h)
-
 -- THE WORDS OF ONE CHAIN written
-module _ (N : ℕ) (s : ℕ → ℕ) (closed size start : ℕ) where
-  pub chain_none : (area : List ℕ) (at : ℕ) → size ≡ 0 → Stored area at (words_by N s closed size start) area at
-  unfolding words_by
-  chain_none area at z = rw (eq-eqb size 0 z) (stored_none area at)
+module _ (N : ℕ) (s : ℕ → ℕ) (c : Chain) where
+  pub chain_room : (at room : ℕ) → at + length (words_by N s c) ≤ room → at + c.size + 2 ≤ room
+  chain_room at room h = omega (arith, words_length N s c)
 
-  pub chain_room : (at room : ℕ) → size ≢ 0 → at + length (words_by N s closed size start) ≤ room → at + size + 2 ≤ room
-  chain_room at room n h = omega (arith, words_length N s closed size start, words_some size n)
-
-  pub chain_stored : (was area : List ℕ) (at : ℕ) → size ≢ 0
-      → area ≡ sets (set (set was at closed) (at + 1) size) (at + 2) (values (λ i. half (it s i start)) size)
-      → Stored was at (words_by N s closed size start) area (at + 2 + size)
+  pub chain_stored : (was area : List ℕ) (at : ℕ)
+      → area ≡ sets (set (set was at (one c.closed)) (at + 1) c.size) (at + 2) (values (λ i. half (it s i c.start)) c.size)
+      → Stored was at (words_by N s c) area (at + 2 + c.size)
   unfolding words_by
-  chain_stored was area at n q =
+  chain_stored was area at q =
       let a : at + 1 ≡ suc at = omega arith in
       let b : at + 2 ≡ suc (suc at) = omega arith in
-      rw (ne_eqb size 0 n) (record {
+      record {
         area = q ∙ rw (a, b);
-        after = omega (arith, length_singles (λ i. half (it s i start)) size 0);
-      })
+        after = omega (arith, length_singles (λ i. half (it s i c.start)) c.size 0);
+      }

@@ -1,7 +1,7 @@
 // Walks over a table of the step: the chain of a least crossing.
 ghost use Rattle.std.specs.Prelude.{◌≡◌, ◌+◌, ◌*◌, ◌/◌, ◌<◌, length};
 ghost use Rattle.walk.specs.Darts.{rev};
-ghost use Rattle.flat.specs.work.Work.{StepTable, Ran, Fresh, Finds, size_by, start_by};
+ghost use Rattle.flat.specs.work.Work.{StepTable, Ran, Fresh, Finds, start_by};
 
 // The table of the step: the dart after each dart, of two to a crossing; their number where there is none.
 #[derive(Clone, Copy)]
@@ -17,10 +17,10 @@ pub(crate) struct Walk {
     pub(crate) last: usize,
 }
 
-// A chain: 1 for a closed one or 0 for an open one, its number of crossings (0 for no chain), and its first dart.
+// A chain: whether it is closed, its number of crossings, and its first dart.
 #[derive(Clone, Copy)]
 pub(crate) struct Chain {
-    pub(crate) closed: u16,
+    pub(crate) closed: bool,
     pub(crate) size: usize,
     pub(crate) start: usize,
 }
@@ -42,16 +42,6 @@ fn lower_end(a: usize, b: usize) -> usize
     ensures { result ≡ start_by a b }
 {
     turned(if a / 2 < b / 2 { a } else { b })
-}
-
-// The crossings of a curve with ends, k steps one way and l the other; 0 where it has no segment.
-#[tactic(auto, unfolding(crate::specs::work::Work::size_by))]
-fn path_size(k: usize, l: usize) -> usize
-    requires k_bound { k < 65536 }
-    requires l_bound { l < 65536 }
-    ensures { result ≡ size_by k l }
-{
-    if k + l == 0 { 0 } else { k + l + 1 }
 }
 
 impl<'a> Steps<'a> {
@@ -76,31 +66,33 @@ impl<'a> Steps<'a> {
         }
     }
 
-    // The chain whose least crossing is p, if p is in no chain with a lower one.
-    pub(crate) fn chain_at(self, p: usize) -> Chain
+    // The chain whose least crossing is p, if p is in no chain with a lower one; none where no segment ends at p.
+    pub(crate) fn chain_at(self, p: usize) -> Option<Chain>
         requires p_lt_n { p < crossings_in self }
         requires fresh { Fresh (crossings_in self) (along self) p }
-        ensures { Finds (crossings_in self.entry) (along self.entry) p result.closed result.size result.start }
+        ensures { Finds (crossings_in self.entry) (along self.entry) p result }
     {
         let w = self.run(2 * p);
         let k = w.steps;
         let a = w.last;
         if self.next[a] as usize == 2 * p {
-            return Chain {
-                closed: 1,
+            return Some(Chain {
+                closed: true,
                 size: k + 1,
                 start: 2 * p,
-            };
+            });
         }
         let v = self.run(2 * p + 1);
         let l = v.steps;
         let b = v.last;
-        let count = path_size(k, l);
-        let start = lower_end(a, b);
-        Chain {
-            closed: 0,
-            size: count,
-            start,
+        if k + l == 0 {
+            return None;
         }
+        let start = lower_end(a, b);
+        Some(Chain {
+            closed: false,
+            size: k + l + 1,
+            start,
+        })
     }
 }

@@ -1,7 +1,7 @@
 // The words of all chains.
 ghost use Rattle.std.specs.Prelude.{◌≡◌, ◌+◌, ◌≤◌, length, get_or};
 ghost use Rattle.std.proofs.lemmas.List.Edits.{sets};
-ghost use Rattle.counting.specs.Lists.{values, it};
+ghost use Rattle.counting.specs.Lists.{one, values, it};
 ghost use Rattle.counting.specs.work.Stored.{Stored};
 ghost use Rattle.counting.specs.Stored.{filled};
 ghost use Rattle.walk.specs.Darts.{half};
@@ -11,6 +11,13 @@ ghost use Rattle.flat.specs.work.Along.{along, crossings_in};
 
 use crate::CROSSING_MARKS;
 use crate::walks::{Chain, Steps};
+
+// The word for a closed chain or for an open one.
+fn closed_word(closed: bool) -> u16
+    ensures { result ≡ one closed }
+{
+    if closed { 1 } else { 0 }
+}
 
 impl<'a> Steps<'a> {
     // The crossings of m darts, from d on, written from the place at on, and marked.
@@ -33,16 +40,13 @@ impl<'a> Steps<'a> {
     fn put_chain(self, c: Chain, area: &mut [u16], at: usize, marks: &mut [u8]) -> usize
         requires darts_from { DartsFrom (crossings_in self) (along self) c.start c.size }
         requires size_le_n { c.size ≤ crossings_in self }
-        requires start_in_bounds { at + length (words_by (crossings_in self) (along self) c.closed c.size c.start) ≤ length area.old }
+        requires start_in_bounds { at + length (words_by (crossings_in self) (along self) c) ≤ length area.old }
         requires n_in_bounds { crossings_in self ≤ length marks.old }
-        ensures stored { Stored area.old at (words_by (crossings_in self.entry) (along self.entry) c.closed c.size c.start) area.new result }
+        ensures stored { Stored area.old at (words_by (crossings_in self.entry) (along self.entry) c) area.new result }
         ensures marked_on { MarkedOn (crossings_in self.entry) (along self.entry) c.start c.size marks.old marks.new }
     {
         let m = c.size;
-        if m == 0 {
-            return at;
-        }
-        area[at] = c.closed;
+        area[at] = closed_word(c.closed);
         area[at + 1] = m as u16;
         self.put_crossings(c.start, m, area, at + 2, marks);
         at + 2 + m
@@ -60,7 +64,9 @@ impl<'a> Steps<'a> {
             if marks[p] != 0 {
                 continue;
             }
-            let c = self.chain_at(p);
+            let Some(c) = self.chain_at(p) else {
+                continue;
+            };
             at = self.put_chain(c, area, at, &mut marks);
         }
         at

@@ -1,5 +1,5 @@
 -- What the functions of this crate ask of each other.
-use Rattle.std.specs.Prelude.{ℕ, ◌*◌, ◌+◌, ◌-◌, ◌/◌, ◌%◌, ◌≤◌, ◌<◌, ◌≡◌, ◌⊎◌, ◌≢◌, Bool, false, true, not, ◌&&◌, List, [], ◌∷◌, eqb, ltb, leb, drop, get_or, length, replicate}
+use Rattle.std.specs.Prelude.{ℕ, ◌*◌, ◌+◌, ◌-◌, ◌/◌, ◌%◌, ◌≤◌, ◌<◌, ◌≡◌, ◌⊎◌, ◌≢◌, Bool, false, true, not, ◌&&◌, List, [], ◌∷◌, eqb, ltb, leb, drop, get_or, length, replicate, Option, Some, None}
 use Rattle.flat.specs.FlatGrid.{most_flat_triangles, FlatGrid, edge_number, node, triangles_in}
 use Rattle.counting.specs.Pick.{pick}
 use Rattle.counting.specs.Lists.{one, values, it}
@@ -24,6 +24,7 @@ use Rattle.flat.specs.Chains.{chains_words}
 use Rattle.flat.specs.Join.{rule_two, largest_edge, lessened, flat_corner_at, flat_join}
 use Rattle.flat.specs.declared.guides.Guide.{Guide}
 use Rattle.flat.specs.declared.guides.Lane.{Lane}
+use Rattle.flat.specs.declared.walks.Chain.{Chain}
 use Rattle.flat.specs.Chain.{closes, chain_size, chain_start}
 
 -- the most edges that the triangles of a flat grid have, each counted in each triangle
@@ -249,15 +250,21 @@ module _ (N : ℕ) (s : ℕ → ℕ) where
     pub hit : (q x : ℕ) → q < p → x < N → InChain q x → get_or marks x 0 ≡ 1
     pub only : (x : ℕ) → x < N → (get_or marks x 0 ≡ 0) ⊎ ((q : ℕ) × (q < p) × InChain q x)
 
-  -- the chain of p is found: closed is 1 or 0, and size is 0 where there is no chain
-  pub record Finds (p closed size start : ℕ) : Type 0 where
-    pub size_is : size ≡ chain_size N s p
-    pub start_is : 0 < size → start ≡ chain_start N s p
-    pub closed_is : 0 < size → closed ≡ one (closes N s p)
+  -- the chain of p
+  pub record ChainOf (p : ℕ) (c : Chain) : Type 0 where
+    pub some : 0 < chain_size N s p
+    pub size_is : c.size ≡ chain_size N s p
+    pub start_is : c.start ≡ chain_start N s p
+    pub closed_is : c.closed ≡ closes N s p
+
+  -- it is found, or there is none
+  abbrev pub Finds : ℕ → Option Chain → Type 0
+  Finds p None = chain_size N s p ≡ 0
+  Finds p (Some c) = ChainOf p c
 
   -- its words
-  unfoldable pub words_by : ℕ → ℕ → ℕ → List ℕ
-  words_by closed size start = pick (eqb size 0) [] (closed ∷ size ∷ values (λ i. half (it s i start)) size)
+  unfoldable pub words_by : Chain → List ℕ
+  words_by c = one c.closed ∷ c.size ∷ values (λ i. half (it s i c.start)) c.size
 
   -- size darts from start on
   abbrev pub DartsFrom : ℕ → ℕ → Type 0
@@ -270,16 +277,9 @@ module _ (N : ℕ) (s : ℕ → ℕ) where
     pub kept : (x : ℕ) → get_or was x 0 ≡ 1 → get_or marks x 0 ≡ 1
     pub only : (x : ℕ) → x < N → (get_or marks x 0 ≡ get_or was x 0) ⊎ On s half start size x
 
--- a curve with ends, walked both ways from a crossing: k steps to dart a, and l to dart b
-unfoldable pub size_by : ℕ → ℕ → ℕ
-size_by k l = pick (eqb (k + l) 0) 0 (k + l + 1)
-
+-- the start of a curve with ends, walked both ways from a crossing: to dart a, and to dart b
 unfoldable pub start_by : ℕ → ℕ → ℕ
 start_by a b = pick (ltb (half a) (half b)) (rev a) (rev b)
-
--- the words of a chain of m crossings
-unfoldable pub words_of : ℕ → ℕ
-words_of m = pick (eqb m 0) 0 (m + 2)
 
 -- what is answered and written for a flat grid that is accepted
 pub record TracedIn (G : FlatGrid) (before after answer : List ℕ) : Type 0 where
