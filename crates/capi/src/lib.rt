@@ -41,6 +41,7 @@ use mesh::Mesh;
 use place::Place;
 
 // The words that hold any answer: CITTERNBLAZE_ANSWER_WORDS of the header.
+// Stays: each call that writes other areas too tests this room by itself, since a function lent a closure would not say what becomes of them.
 const ANSWER_WORDS: usize = 6;
 
 // Puts the numbers of an answer at the front of the area, and returns how many they are. The calls that write to other areas too ask for the
@@ -610,6 +611,7 @@ pub extern "C" fn citternblaze_nearest(
 ) -> usize
     ensures { Answers (nearest_answer points.now (record { x = x; y = y; z = z })) answer.old answer.new result }
 {
+    // Stays: a match of its own, since a distance has bits that tell it only where it is a number, which this call alone knows.
     match nearest::nearest_point(points, Place { x, y, z }) {
         Ok(Some(n)) => put(answer, &[0, n.point as u64, f64::to_bits(n.distance)]),
         Ok(None) => put(answer, &[0]),

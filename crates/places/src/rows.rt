@@ -22,7 +22,8 @@ pub(crate) fn mark(cells: &[u16], used: &mut [u8])
     }
 }
 
-// One more than the highest marked node; 0 where none is marked, as the length of a list.
+// One more than the highest marked node.
+// Stays: 0 where none is marked, since it is a length: so many nodes must have places.
 pub(crate) fn marked_end(used: &[u8]) -> usize
     ensures { result ≡ last (is_marked used.now) (length used.now) }
 {
