@@ -1,17 +1,17 @@
 -- What the turns and the returns of the code come to.
-use Prim.Native.Nat.{ℕ, zero, suc, ◌+◌, ◌-◌, ◌*◌, ◌/◌, ◌%◌, ◌≤◌, ◌<◌}
+use Prim.Native.Nat.{ℕ, ◌+◌, ◌-◌, ◌*◌, ◌/◌, ◌%◌, ◌≤◌, ◌<◌}
 use mathlib.Core.Path.{◌≡◌, refl, sym, ap, ◌∙◌}
 use mathlib.Core.Bool.{Bool, true, false, not}
 use mathlib.Core.Logic.{◌⊎◌, inl, ⊎_elim}
-use mathlib.Core.List.{List, [], ◌∷◌}
+use mathlib.Core.List.{List}
 use native.Mathlib.Nat.{zero-add, not-suc-le-zero}
 use native.Mathlib.Numerals.{add-one}
 use native.Mathlib.Omega.{arith}
 use native.Mathlib.Decide.{dec_lt, ℕ_discrete}
 use lib.Dec.{eqb, leb, ltb}
-use lib.ListN.{length, get_or, set, length-set, get_or-append}
-use lib.Seq.{sets, length-sets, get_or-append_seam, get_or-set_same, get_or-set_other}
-use borrow.Author.Tests.{eq-eqb, ne_eqb, le-leb, lt-leb, lt-ltb, le-ltb}
+use lib.ListN.{length, get_or, set, length-set}
+use lib.Seq.{sets, length-sets, get_or-set_same, get_or-set_other}
+use borrow.Author.Tests.{eq-eqb, ne_eqb, lt-ltb, le-ltb}
 use Rattle.counting.specs.Pick.{pick}
 use Rattle.counting.specs.Search.{some}
 use Rattle.counting.specs.Lists.{pre, total, over, values}
@@ -25,7 +25,7 @@ use Rattle.counting.proofs.Stores.{get_or_sets_in, get_or_sets_out}
 use Rattle.slots.specs.Limits.{most_cells, most_slots}
 use Rattle.slots.specs.work.Limits.{most_edges}
 use Rattle.counting.proofs.Search.{some_zero, some_hit, some_miss}
-use Rattle.layers.specs.Cuts.{cut_at, run_start, run_end, bad_cut}
+use Rattle.layers.specs.Cuts.{cut_at, run_start, bad_cut}
 use Rattle.layers.specs.work.Work.{name_from, side_from, used_by, block_size, block_of, most_marks, EdgesMarked, marked_start, StartsSumming, StartsSummed, Layable, Copied, Started}
 
 -- CUTS

@@ -10,7 +10,7 @@ use lib.Ieee.{Float}
 use borrow.Author.Tests.{ltb-false, eqb-true, not-false}
 use Rattle.answer.specs.Answer.{result_of, is_result}
 use Rattle.answer.specs.work.Faults.{numbered, since}
-use Rattle.answer.proofs.Rows.{answer_some, clear_since, result_clear}
+use Rattle.answer.proofs.Rows.{clear_since, result_clear}
 use Rattle.counting.specs.Pick.{pick}
 use Rattle.counting.proofs.Bools.{clash, or_none}
 use Rattle.grid.specs.Grid.{Grid, crossings}

@@ -63,7 +63,15 @@ fn place_all(
     let own = direct::count_fans(tables);
     let fans = own + more.fans as usize;
     let all = n + more.inner as usize + fans;
-    let many = rows::judge(tables.cells, tables.counts, nodes, fractions, n, all, area.len())?;
+    let many = rows::judge(
+        tables.cells,
+        tables.counts,
+        nodes,
+        fractions,
+        n,
+        all,
+        area.len(),
+    )?;
     points::place_crossings(edges, tables.counts, nodes, fractions, area);
     place_rest(tables, nodes, area, n, more.inner, own);
     Ok(many)
