@@ -97,6 +97,7 @@ pub fn count_crossings(counts: &[u16]) -> Result<u32, Refusal>
 }
 
 // Rows 9 and 10.
+// Stays: near and sides are two slices, since near is whole from row 4 on, and only read, while sides is written for row 7; no function reads both but row 9.
 fn last_rows<const EDGES: usize, const CELLS: usize>(
     grid: Grid,
     near: &[u16],

@@ -10,6 +10,8 @@ ghost use Rattle.trees.specs.work.Trees.{link_to};
 use crate::scratch::{Chain, Chains, NodeTables, SlotTables};
 
 // Gives item i the number of its key in this turn: the one that at has, where it is above base, else the next. Answers the last number given out.
+// Stays: keys, at and out are three slices from here up to `pass`, since each call lends other fields of one table for them, two to be written; a struct of
+// these borrows would stand before every list in the clauses.
 fn number(i: usize, keys: &[u16], base: usize, ids: usize, at: &mut [u16], out: &mut [u16]) -> usize
     requires { Numberable keys.now i ids at.old out.old }
     ensures value { result ≡ ids_after base ids (mark_of keys.now at.old i) }
@@ -286,7 +288,8 @@ pub(crate) fn number_cells<const SLOTS: usize, const LABELS: usize, const CELLS:
     );
 }
 
-// The last place that seen has for the number key, where there is one; from now on it has place j. The table has one more than a place, and 0 for none.
+// The last place that seen has for the number key, where there is one; from now on it has place j. The table has one more than a place, so that a new one
+// is right.
 pub(crate) fn earlier(key: usize, j: usize, seen: &mut [u16]) -> Option<usize>
     requires key_in_bounds { key < length seen.old }
     requires j_bound { j < 65535 }
