@@ -11,11 +11,12 @@ use lib.ListN.{length}
 use lib.Ieee.{Float, binary64, fits, is_nan, to_bits, of_bits}
 use lib.Ieee.Bits.{of_bits-to_bits}
 use borrow.Author.Tests.{eqb-true, eqb-false}
-use Rattle.answer.specs.Answer.{result_of, is_result}
-use Rattle.answer.specs.work.Faults.{numbered}
+use Rattle.answer.specs.Answer.{result_of}
+use Rattle.answer.specs.Refusal.{refusal_numbers}
+use Rattle.answer.specs.declared.Refusal.{Refusal}
 use Rattle.answer.specs.declared.Row.TheVariants.{Points}
 use Rattle.answer.proofs.Numbers.{row_not, refusal_tells}
-use Rattle.answer.proofs.Rows.{result_is}
+use Rattle.answer.proofs.Rows.{answer_some}
 use Rattle.counting.specs.Pick.{pick}
 use Rattle.counting.proofs.Bools.{and_left, and_right, holds_or}
 use Rattle.place.specs.declared.Place.{Place}
@@ -37,38 +38,31 @@ empty_is (x ∷ l) e = absurd (omega arith)
 bits_back : (d : Float) → has_bits d ≡ true → of_bits binary64 (to_bits binary64 d) ≡ d
 bits_back d h = of_bits-to_bits binary64 d (subst T (sym (and_left (fits binary64 d) (not (is_nan d)) h)) tt)
 
--- no answer has one value
-no_one : (points : List Float) (query : Place) (n : ℕ) → result_of (n ∷ []) ≡ nearest_answer points query → ⊥
-unfolding numbered nearest_rows nearest_answer nearest_values
-no_one points query n e = go (eqb (length points) 0) (e ∙ result_is (nearest_rows points query) (nearest_values points query) refl (ap is_result (sym e)))
-  where
-    more : List ℕ
-    more = nearest_number points query ∷ to_bits binary64 (distance_of points query (nearest_number points query)) ∷ []
-
-    go : (b : Bool) → result_of (n ∷ []) ≡ result_of (pick b [] more) → ⊥
-    go true f = let z : ◌≡◌ {A = ℕ} 0 1 = cc in omega arith
-    go false f = let z : ◌≡◌ {A = ℕ} 0 1 = cc in omega arith
+-- there is always an answer
+nearest_some : (points : List Float) (query : Place) → [] ≡ nearest_answer points query → ⊥
+unfolding nearest_answer
+nearest_some points query = answer_some (nearest_rows points query) (nearest_values points query)
 
 -- a point that is answered has its bits, which are those of the answer
 module _ (points : List Float) (query : Place) where
-  at_reads : (p : Nearest) → result_of (nearest_numbers (Some p)) ≡ nearest_answer points query
+  at_reads : (p : Nearest) → nearest_numbers (Some p) ≡ nearest_answer points query
       → (has_bits p.distance ≡ true) × (result_of (p.point ∷ to_bits binary64 p.distance ∷ []) ≡ nearest_answer points query)
   at_reads p = go (has_bits p.distance) refl
     where
-      go : (b : Bool) → has_bits p.distance ≡ b → result_of (p.point ∷ pick b (to_bits binary64 p.distance ∷ []) []) ≡ nearest_answer points query
+      go : (b : Bool) → has_bits p.distance ≡ b → pick b (result_of (p.point ∷ to_bits binary64 p.distance ∷ [])) [] ≡ nearest_answer points query
           → (has_bits p.distance ≡ true) × (result_of (p.point ∷ to_bits binary64 p.distance ∷ []) ≡ nearest_answer points query)
       go true h e = (h, e)
-      go false h e = absurd (no_one points query p.point e)
+      go false h e = absurd (nearest_some points query e)
 
-  pub point_reads : (p : Nearest) → result_of (nearest_numbers (Some p)) ≡ nearest_answer points query
+  pub point_reads : (p : Nearest) → nearest_numbers (Some p) ≡ nearest_answer points query
       → T (not (is_nan p.distance)) × (result_of (p.point ∷ to_bits binary64 p.distance ∷ []) ≡ nearest_answer points query)
   point_reads p e = let (h, q) = at_reads p e in (subst T (sym (and_right (fits binary64 p.distance) (not (is_nan p.distance)) h)) tt, q)
 
   -- two values with one reading that is the answer
-  nearest_tells : (x y : Option Nearest) → result_of (nearest_numbers x) ≡ nearest_answer points query → result_of (nearest_numbers y) ≡ nearest_answer points query → x ≡ y
+  nearest_tells : (x y : Option Nearest) → nearest_numbers x ≡ nearest_answer points query → nearest_numbers y ≡ nearest_answer points query → x ≡ y
   nearest_tells None None a b = refl
-  nearest_tells None (Some p) a b = absurd (let q = a ∙ sym b in cc)
-  nearest_tells (Some p) None a b = absurd (let q = a ∙ sym b in cc)
+  nearest_tells None (Some p) a b = absurd (let q = a ∙ sym (at_reads p b).1 in cc)
+  nearest_tells (Some p) None a b = absurd (let q = b ∙ sym (at_reads p a).1 in cc)
   nearest_tells (Some p) (Some r) a b =
       let (g, u) = at_reads p a in
       let (h, v) = at_reads r b in
@@ -77,10 +71,15 @@ module _ (points : List Float) (query : Place) where
       let z : p.distance ≡ r.distance = sym (bits_back p.distance g) ∙ ap (of_bits binary64) y ∙ bits_back r.distance h in
       ap₂ (λ n d. Some (record { point = n; distance = d })) x z
 
+  -- a result is no refusal
+  result_not : (x : Option Nearest) (r : Refusal) → nearest_numbers x ≡ nearest_answer points query → refusal_numbers r ≡ nearest_answer points query → ⊥
+  result_not None r a b = let q = b ∙ sym a in row_not r.row cc
+  result_not (Some p) r a b = let q = b ∙ sym (at_reads p a).1 in row_not r.row cc
+
   tells : (r s : Measured) → measured_numbers r ≡ nearest_answer points query → measured_numbers s ≡ nearest_answer points query → r ≡ s
   tells (Ok x) (Ok y) a b = ap Ok (nearest_tells x y a b)
-  tells (Ok x) (Err r) a b = absurd (let q = b ∙ sym a in row_not r.row cc)
-  tells (Err r) (Ok x) a b = absurd (let q = a ∙ sym b in row_not r.row cc)
+  tells (Ok x) (Err r) a b = absurd (result_not x r a b)
+  tells (Err r) (Ok x) a b = absurd (result_not x r b a)
   tells (Err r) (Err s) a b = ap Err (refusal_tells r s (a ∙ sym b))
 
 pub measured_told : MeasuredTold

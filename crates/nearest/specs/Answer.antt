@@ -1,10 +1,10 @@
 -- The answer of the nearest call (02).
-use Rattle.std.specs.Prelude.{ℕ, ◌-◌, ◌%◌, Bool, not, ◌&&◌, ◌||◌, List, [], ◌∷◌, ◌++◌, eqb, length, get_or, Float, Option, Some, None, Result}
+use Rattle.std.specs.Prelude.{ℕ, ◌-◌, ◌%◌, Bool, not, ◌&&◌, ◌||◌, List, [], ◌∷◌, ◌++◌, eqb, length, get_or, Float, Option, Some, None, Result, Ok, Err}
 use Rattle.std.specs.Float.{nan, binary64}
 use Rattle.std.specs.Float.Ieee.{fits, is_nan, to_bits}
 use Rattle.answer.specs.declared.Refusal.{Refusal}
 use Rattle.answer.specs.Answer.{result_of}
-use Rattle.answer.specs.Refusal.{answer_numbers}
+use Rattle.answer.specs.Refusal.{refusal_numbers}
 use Rattle.answer.specs.Rows.{Row, each, answer_of}
 use Rattle.counting.specs.Pick.{pick}
 use Rattle.place.specs.declared.Place.{Place}
@@ -20,14 +20,15 @@ has_bits x = fits binary64 x && not (is_nan x)
 abbrev pub Measured : Type 0
 Measured = Result (Option Nearest) Refusal
 
--- The values of a result: none for no point; a point has its number and the bits of its squared distance, by which no two floats are alike. What has no
--- bits of its own is given a reading with one value, which no answer of the call has.
+-- The call's answer as numbers: no point is a result without values; a point has its number and the bits of its squared distance, by which no two
+-- floats are alike. What has no bits of its own is given no reading.
 abbrev pub nearest_numbers : Option Nearest → List ℕ
-nearest_numbers None = []
-nearest_numbers (Some p) = p.point ∷ pick (has_bits p.distance) (to_bits binary64 p.distance ∷ []) []
+nearest_numbers None = result_of []
+nearest_numbers (Some p) = pick (has_bits p.distance) (result_of (p.point ∷ to_bits binary64 p.distance ∷ [])) []
 
 abbrev pub measured_numbers : Measured → List ℕ
-measured_numbers = answer_numbers nearest_numbers
+measured_numbers (Ok n) = nearest_numbers n
+measured_numbers (Err r) = refusal_numbers r
 
 -- number i of a list is not within the limit
 abbrev pub beyond : List Float → ℕ → Bool
