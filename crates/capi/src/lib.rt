@@ -41,7 +41,8 @@ use mesh::Mesh;
 use place::Place;
 
 // The words that hold any answer: CITTERNBLAZE_ANSWER_WORDS of the header.
-// Stays: each call that writes other areas too tests this room by itself, since a function lent a closure would not say what becomes of them.
+// Stays: each call that writes other areas too tests this room by itself, since its clauses say of each area `if_room answer.old ..` (C interface): a function
+// lent a closure would need as many clauses again.
 const ANSWER_WORDS: usize = 6;
 
 // Puts the numbers of an answer at the front of the area, and returns how many they are. The calls that write to other areas too ask for the

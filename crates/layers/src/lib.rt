@@ -207,7 +207,7 @@ fn cut_joined(whole: Whole, cuts: &[u16], area: &mut [u32]) -> Result<Mesh, Refu
         sides: whole.sides,
         starts: whole.grid.starts,
     };
-    let s = split::sums_of(tables);
+    let s = split::sums_of(tables.cells, tables.counts, tables.sides);
     let most = s.crossings + s.more as usize;
     if let Some(n) = lacking(tables, most, area.len()) {
         return Err(Row::MeshArea.at(n));

@@ -4,24 +4,27 @@ ghost use Rattle.counting.specs.Lists.{total};
 ghost use Rattle.counting.specs.Stored.{stored_in};
 ghost use Rattle.counting.specs.work.Stored.{Stored};
 ghost use Rattle.cell.specs.Words.{word_count, all_words};
+ghost use Rattle.cell.specs.claims.Table.{drawn_cells};
 ghost use Rattle.cell.specs.work.Tables.{cell_in, drawn_in};
 ghost use Rattle.split.specs.Parts.{drawn_triangles};
 ghost use Rattle.split.specs.work.Table.{most_drawn};
+ghost use Rattle.split.specs.work.Gains.{AreSums};
 ghost use Rattle.split.specs.work.Tables.{NextSplit, SumsOf, splits_in_cell, splits_made, triangles_drawn, words_of_loops};
 
 use super::{CellSums, DrawnSums, SplitCell, put_cell};
 use cell::{Tables, WORD_COUNT};
+use slots::MOST_EDGES;
 
 // What the cells come to. At most `crossings + more` triangles are drawn of them.
-pub fn sums_of(tables: Tables) -> CellSums
-    ensures { SumsOf tables.entry result.crossings result.splits result.more }
+pub fn sums_of(cells: &[u16], counts: &[u16], sides: &[u16; MOST_EDGES]) -> CellSums
+    ensures { AreSums counts.now sides.now (drawn_cells cells.now) result.crossings result.splits result.more }
 {
-    let n = cell::drawn(tables.cells);
+    let n = cell::drawn(cells);
     let mut crossings: usize = 0;
     let mut splits: u64 = 0;
     let mut more: u64 = 0;
     for c in 0..n {
-        let six = cell::counts_at(tables.counts, tables.sides, c);
+        let six = cell::counts_at(counts, sides, c);
         let g = booking::gain_of(six);
         crossings += booking::crossings_in(six);
         splits += g.splits as u64;
@@ -127,7 +130,7 @@ pub fn draw(tables: Tables, area: &mut [u32]) -> DrawnSums
     ensures triangles_value { (result.triangles ≡ length (triangles_drawn tables.entry)) × (result.splits ≡ splits_made tables.entry) × (result.triangles ≤ most_drawn) }
     ensures area_after { area.new ≡ stored_in area.old 0 (all_words (triangles_drawn tables.entry)) }
 {
-    let s = sums_of(tables);
+    let s = sums_of(tables.cells, tables.counts, tables.sides);
     let triangles = draw_all(tables, s, area);
     DrawnSums {
         triangles,

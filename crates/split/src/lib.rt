@@ -91,7 +91,7 @@ pub const FIRST_FACE: u32 = MOST_SLOTS as u32;
 const CORNER: usize = 3;
 
 // Writes the words of the triangles of the loops of length `only`, or of all where that is 0, which have room from index `at` on, and answers the next index.
-// Stays: 0 for all lengths, as `triangles_with` reads it, which the theorems on parts cite.
+// Stays: 0 for all lengths, as the clauses of `cell::write_loops` and `direct::write_part` have it (`triangles_with`).
 fn put(c: Cell, only: usize, area: &mut [u32], at: usize) -> usize
     requires starts_near { StartsNear c }
     requires only_in_bounds { at + length (all_words (triangles_with c only)) ≤ length area.old }

@@ -16,6 +16,7 @@ fn own_at(most: u32, x: u16, y: u16, z: u16) -> u32
 }
 
 // The own corner triangles at each node of a cell with these counts, in which only rule 1 is met.
+// Stays: here and in `direct`, since it asks for a level cell, and a public function asks nothing.
 fn own_of(six: [u16; 6]) -> [u32; 4]
     requires { is_level_cell (by_edge six) ≡ true }
     ensures { AreOwn (by_edge six) result }

@@ -17,6 +17,7 @@ use cell::Cell;
 use slots::{MOST_CELLS, high_end, low_end, lower_end, position, upper_end};
 
 // The edge that joins two positions or labels.
+// Stays: here and in `direct`, since it asks for two of four, and a public function asks nothing.
 fn joining_of(a: u32, b: u32) -> u32
     requires { (a < 4) × (b < 4) × (a ≡ b → ⊥) }
     ensures { (result ≡ joining a b) × (result < 6) }

@@ -10,16 +10,16 @@ loop-c-init c = (summed_none _ _, summed_none _ _, summed_none _ _)
 pub overflow_add-more : goal.overflow_add-more
 overflow_add-more c = let A = c.args in
     let L = c.loop-c in
-    let g = gain_at A.tables.counts.now A.tables.sides.now L.c c.counts_at-six.ensures c.gain_of-g.ensures in
-    omega (arith, g, at_more A.tables.counts.now A.tables.sides.now L.c, L.invariant.2.few, c.drawn-n.ensures)
+    let g = gain_at A.counts.now A.sides.now L.c c.counts_at-six.ensures c.gain_of-g.ensures in
+    omega (arith, g, at_more A.counts.now A.sides.now L.c, L.invariant.2.few, c.drawn-n.ensures)
 
 pub loop-c-preserved : goal.loop-c-preserved
 loop-c-preserved c = let A = c.args in
     let L = c.loop-c in
     let e = c.counts_at-six.ensures in
-    let g = gain_at A.tables.counts.now A.tables.sides.now L.c e c.gain_of-g.ensures in
-    let x = crossings-at A.tables.counts.now A.tables.sides.now L.c e c.crossings_in-crossings.ensures.0 in (
-      summed_more _ _ L.invariant.0 _ x (omega (arith, x, table_most A.tables.counts.now A.tables.sides.now L.c)),
-      summed_more _ _ L.invariant.1 _ g.0 (omega (arith, g, at_few A.tables.counts.now A.tables.sides.now L.c)),
-      summed_more _ _ L.invariant.2 _ g.1 (omega (arith, g, at_more A.tables.counts.now A.tables.sides.now L.c)),
+    let g = gain_at A.counts.now A.sides.now L.c e c.gain_of-g.ensures in
+    let x = crossings-at A.counts.now A.sides.now L.c e c.crossings_in-crossings.ensures.0 in (
+      summed_more _ _ L.invariant.0 _ x (omega (arith, x, table_most A.counts.now A.sides.now L.c)),
+      summed_more _ _ L.invariant.1 _ g.0 (omega (arith, g, at_few A.counts.now A.sides.now L.c)),
+      summed_more _ _ L.invariant.2 _ g.1 (omega (arith, g, at_more A.counts.now A.sides.now L.c)),
     )
