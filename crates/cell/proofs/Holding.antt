@@ -1,7 +1,7 @@
 -- The record of a loop of a cell gives the loop's triangles.
 use Prim.Native.Nat.{ℕ, ◌+◌, ◌/◌, ◌<◌}
 use mathlib.Core.Path.{◌≡◌, sym, ap, ◌∙◌}
-use mathlib.Core.Bool.{Bool, true, false, not, ◌||◌}
+use mathlib.Core.Bool.{Bool, true, false, not, ◌&&◌, ◌||◌}
 use mathlib.Core.List.{List, []}
 use native.Mathlib.Omega.{arith}
 use lib.Dec.{eqb}
@@ -10,23 +10,21 @@ use borrow.Author.Tests.{not-true, not-false}
 use Rattle.counting.specs.Lists.{over, after, gather}
 use Rattle.counting.specs.work.Stored.{Stored}
 use Rattle.counting.proofs.Stored.{stored_none}
-use Rattle.manifold.specs.Shape.{shape_of}
+use Rattle.manifold.specs.Shape.{shape_of, many_of}
 use Rattle.cell.specs.declared.Cell.{Cell}
-use Rattle.cell.specs.declared.Shape.{Shape}
 use Rattle.cell.specs.Cell.{mate, slot}
 use Rattle.cell.specs.Loop.{dart}
 use Rattle.cell.proofs.Loops.{from_lt, from_slot, from_point}
 use Rattle.cell.proofs.Going.{Looped, looped_halves, looped_points}
 use Rattle.cell.specs.Of.{edges_of}
 use Rattle.cell.specs.Triangles.{number_of, loop_triangles, asked_triangles}
-use Rattle.cell.specs.work.Traced.{RecordedLoop}
-use Rattle.cell.specs.work.Drawn.{length_of, drawn_as, many_in, drawn_triangles}
-use Rattle.cell.proofs.LoopTriangles.{traced_as, length_traced}
-use Rattle.cell.proofs.Taken.{dart_leads, traced_loop, asked_is, asked_not}
+use Rattle.cell.specs.work.Traced.{RecordedLoop, traced_triangles}
+use Rattle.cell.proofs.LoopTriangles.{length_traced}
+use Rattle.cell.proofs.Taken.{two_four, dart_leads, traced_loop, asked_is, asked_not}
 use Rattle.cell.proofs.Storing.{words_of, written_more}
 
 module _ {c : Cell} {p n : ℕ} {b : Bool} {halves points : List ℕ} (L : Looped c p n b halves points) where
-  looped_traced : RecordedLoop halves points n
+  pub looped_traced : RecordedLoop halves points n
   looped_traced = record {
     few = omega (arith, L.few);
     halves_long = looped_halves L;
@@ -44,15 +42,17 @@ module _ {c : Cell} {p n : ℕ} {b : Bool} {halves points : List ℕ} (L : Loope
   leads : (k : ℕ) → k < n → mate (edges_of c) (slot (edges_of c) (dart (edges_of c) p k)) (dart (edges_of c) p k / 2) ≡ dart (edges_of c) p (after n k) / 2
   leads k h = dart_leads c p L.inside k (omega (arith, L.size)) ∙ ap (λ m. dart (edges_of c) p (after m k) / 2) (sym L.size)
 
-  module _ (s : Shape) (is : (length_of s ≡ n) × (drawn_as s ≡ shape_of n b)) where
-    pub looped_shaped : RecordedLoop halves points (length_of s)
-    looped_shaped = traced_as (sym is.0) looped_traced
+  module _ {two : Bool} (is : two ≡ (eqb n 4 && b)) where
+    pub looped_four : two ≡ true → n ≡ 4
+    looped_four = two_four n two b is
 
-    pub looped_loop : drawn_triangles c halves points s ≡ loop_triangles c p
-    looped_loop = rw (is.0, is.1, L.told) (traced_loop c p halves points n L.size slots numbers leads)
+    pub looped_loop : traced_triangles c halves points n two ≡ loop_triangles c p
+    looped_loop =
+        traced_loop c p halves points n L.size slots numbers leads two
+        (is ∙ ap (λ x. eqb n 4 && x) L.told)
 
-    pub looped_many : many_in s ≡ length (loop_triangles c p)
-    looped_many = sym (length_traced c halves points (length_of s) (drawn_as s)) ∙ ap length looped_loop
+    pub looped_many : many_of (shape_of n two) n ≡ length (loop_triangles c p)
+    looped_many = sym (length_traced c halves points n two) ∙ ap length looped_loop
 
 -- a loop that is left out, and one that is asked for
 module _ (only : ℕ) {c : Cell} {p n : ℕ} {b : Bool} {halves points : List ℕ} (L : Looped c p n b halves points) {out : Bool} (e : out ≡ not (eqb only 0 || eqb n only)) where

@@ -1,15 +1,17 @@
 -- What is recorded of a loop of a cell gives the loop's triangles.
 use Prim.Native.Nat.{ℕ, ◌*◌, ◌/◌, ◌≤◌, ◌<◌}
 use mathlib.Core.Path.{◌≡◌, refl, sym, ap, ◌∙◌, subst}
-use mathlib.Core.Bool.{Bool, true, false, ◌||◌}
+use mathlib.Core.Bool.{Bool, true, false, ◌&&◌, ◌||◌}
 use mathlib.Core.List.{List, []}
 use native.Mathlib.Omega.{arith}
 use lib.Dec.{eqb}
 use lib.ListN.{length, get_or}
+use borrow.Author.Tests.{eqb-true}
 use Rattle.counting.specs.Lists.{total, after, it}
+use Rattle.counting.proofs.Bools.{and_left}
 use Rattle.counting.proofs.Range.{after_lt, length_over, total_ext, total_mono}
 use Rattle.manifold.specs.Shape.{Shape, shape_of, many_of, triangles_of}
-use Rattle.manifold.proofs.Shapes.{fits, many_le, length_triangles, triangles_ext}
+use Rattle.manifold.proofs.Shapes.{shape_two, fits, many_le, length_triangles, triangles_ext}
 use Rattle.walk.specs.Step as steps
 use Rattle.walk.proofs.Step.{live, land_half}
 use Rattle.cell.specs.declared.Cell.{Cell}
@@ -22,6 +24,10 @@ use Rattle.cell.specs.declared.Side.TheVariants.{Inner}
 use Rattle.cell.specs.Triangles.{many_from, triangle_count, triangle, number_of, segment_of, point, segment, loop_triangles, cell_triangles, asked_triangles, triangles_with}
 use Rattle.cell.specs.Of.{edges_of}
 use Rattle.cell.specs.work.Traced.{point_at, segment_at, traced_triangles}
+
+-- n is 4 where the code says that a loop is in two triangles
+pub two_four : (n : ℕ) (two b : Bool) → two ≡ (eqb n 4 && b) → two ≡ true → n ≡ 4
+two_four n two b e t = eqb-true n 4 (and_left (eqb n 4) b (sym e ∙ t))
 
 module _ (c : Cell) (p : ℕ) where
   abbrev n : ℕ
@@ -54,12 +60,13 @@ module _ (c : Cell) (p : ℕ) where
     unfolding segment_at segment segment_of
     traced_segment k l = rw (slots k l, numbers k l, numbers (after m k) (after_lt m k l), leads k l)
 
-    pub traced_loop : traced_triangles c halves points m (shape_of m (normal (edges_of c) p)) ≡ loop_triangles c p
+    pub traced_loop : (two : Bool) → two ≡ (eqb m 4 && normal (edges_of c) p) → traced_triangles c halves points m two ≡ loop_triangles c p
     unfolding traced_triangles loop_triangles
-    traced_loop =
+    traced_loop two e =
         triangles_ext (triangle c.index (get_or points 0 0)) (point_at points) Middle (segment_at c.names halves points m) Inner m
         (triangle c.index (number_of c p)) (point c p) (segment c p) (λ l. ap (triangle c.index) (numbers 0 l ∙ first_point)) traced_point traced_segment
-        (shape_of m (normal (edges_of c) p)) (fits m (normal (edges_of c) p))
+        (shape_of m two) (fits m two)
+        ∙ ap (λ q. triangles_of (triangle c.index (number_of c p)) (point c p) Middle (segment c p) Inner m q) (ap (shape_of m) e ∙ shape_two m (normal (edges_of c) p))
         ∙ ap (λ k. triangles_of (triangle c.index (number_of c p)) (point c p) Middle (segment c p) Inner k (shape_of k (normal (edges_of c) p))) size
 
 -- each dart of a loop leads to its next point, the last back to the first

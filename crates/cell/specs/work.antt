@@ -9,7 +9,6 @@ pub mod Scratch
 pub mod Walked
 pub mod Round
 pub mod Traced
-pub mod Drawn
 pub mod Nth
 pub mod Fits
 pub mod Centres

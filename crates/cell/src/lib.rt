@@ -43,8 +43,8 @@ pub use words::{NO_NAME, WORD_COUNT};
 
 // The most crossings of a cell. The arrays of the walks have a place for each; and fewer, where no count is above the second limit: clearing the larger
 // ones costs a small grid more than all else in a cell. Nothing that is answered depends on the second limit.
-// Stays: the arrays go as three slices, made where they are lent in a block for each size, in place of one struct with its size as a const parameter. Such a
-// struct makes each function of the walks once for each size, which the compiler puts into one another no more: to write cells took 1.4 of the time.
+// Stays: the arrays go as three slices, made where they are lent, in place of one struct with its size as a const parameter. Such a struct makes each function
+// of the walks once for each size, which the compiler puts into one another no more: to write cells took 1.4 of the time.
 pub const MOST_IN_CELL: usize = 6 * MOST_COUNT as usize;
 
 const FEW_COUNT: u16 = 255;
@@ -151,19 +151,11 @@ struct Nest {
 }
 
 // What a walk found: the length of the loop, 0 where there is none, and whether it is normal.
-// Stays: a length of 0 for no loop, as the definitions have it (`loop_size`), since the callers add up what loops of any length give, and 0 gives none.
+// Stays: 0 for no loop, as `loop_size` has it: a loop of 0 gives no triangle and no middle, so that only `loop_at` and what writes fans test for it.
 #[derive(Clone, Copy)]
 struct Trip {
     length: usize,
     normal: bool,
-}
-
-// The shape in which a loop is drawn: a loop of three as one triangle, a normal loop of four as two, and each other as a fan of as many as it has points.
-#[derive(Clone, Copy)]
-enum Shape {
-    Single,
-    Double,
-    Fan(usize),
 }
 
 // Loop k of the cell, which has n crossings, or none where there are k or fewer. The arrays are the walks'.

@@ -1,11 +1,10 @@
 // Triangles by value, from a loop's record: the half-edges of its darts and the crossing numbers of its points.
-ghost use Rattle.std.specs.Prelude.{◌≡◌, ◌<◌};
+ghost use Rattle.std.specs.Prelude.{◌≡◌, true, ◌&&◌, eqb, ◌<◌};
 ghost use Rattle.counting.specs.Lists.{after};
-ghost use Rattle.manifold.specs.Shape.{single, double, fan, shape_of};
-ghost use Rattle.cell.specs.work.Drawn.{length_of, drawn_as, many_in};
+ghost use Rattle.manifold.specs.Shape.{single, double, fan, shape_of, many_of};
 ghost use Rattle.cell.specs.work.Traced.{RecordedLoop, segment_at, traced_triangle};
 
-use super::{Cell, Corner, Shape, Side, Triangle};
+use super::{Cell, Corner, Side, Triangle};
 
 // The place after k in a round of n.
 fn after_of(n: usize, k: usize) -> usize
@@ -16,7 +15,6 @@ fn after_of(n: usize, k: usize) -> usize
 }
 
 // Segment k of a recorded loop of n points, by the names of the faces in the cell's slots.
-// Stays: n beside the slices, whose length it is, here and in a fan: for a loop of three or four points it is a constant, and for a fan what its shape carries.
 fn segment_at(names: [u16; 4], halves: &[u8], points: &[u32], n: usize, k: usize) -> Side
     requires recorded_loop { RecordedLoop halves.now points.now n }
     requires k_lt_n { k < n }
@@ -108,48 +106,47 @@ pub(crate) fn spoke_of(c: Cell, halves: &[u8], points: &[u32], n: usize, k: usiz
     }
 }
 
-impl Shape {
-    // The shape of a loop of n points.
-    pub(crate) fn of(n: usize, normal: bool) -> Shape
-        ensures { (length_of result ≡ n) × (drawn_as result ≡ shape_of n normal) }
-    {
-        if n == 3 {
-            Shape::Single
-        } else if n == 4 && normal {
-            Shape::Double
-        } else {
-            Shape::Fan(n)
-        }
-    }
-
-    // How many triangles a loop in this shape gives.
-    pub(crate) fn triangles(self) -> usize
-        ensures { result ≡ many_in self }
-    {
-        match self {
-            Shape::Single => 1,
-            Shape::Double => 2,
-            Shape::Fan(n) => n,
-        }
-    }
+// Whether a loop of n is in two triangles: n is 4, and it is normal.
+pub(crate) fn in_two(n: usize, normal: bool) -> bool
+    ensures { result ≡ (eqb n 4 && normal) }
+{
+    n == 4 && normal
 }
 
-// Triangle k of a recorded loop.
+// How many triangles a loop of n gives; `two` says that n is 4 and the loop normal.
+// Stays: a length and a flag, since with an enum of the three shapes in their place a mesh of cells with many crossings took up to 1.2 of the time.
+pub(crate) fn many(n: usize, two: bool) -> usize
+    requires { two ≡ true → n ≡ 4 }
+    ensures { result ≡ many_of (shape_of n two) n }
+{
+    if n == 3 {
+        return 1;
+    }
+    if two { 2 } else { n }
+}
+
+// Triangle k of a recorded loop of n.
 pub(crate) fn triangle_of(
     c: Cell,
     halves: &[u8],
     points: &[u32],
-    shape: Shape,
+    n: usize,
+    two: bool,
     k: usize,
 ) -> Triangle
-    requires recorded_loop { RecordedLoop halves.now points.now (length_of shape) }
-    requires k_bound { k < many_in shape }
-    ensures { result ≡ traced_triangle c halves.now points.now (length_of shape) (drawn_as shape) k }
+    requires recorded_loop { RecordedLoop halves.now points.now n }
+    requires n_value { two ≡ true → n ≡ 4 }
+    requires k_bound { k < many_of (shape_of n two) n }
+    ensures { result ≡ traced_triangle c halves.now points.now n (shape_of n two) k }
 {
-    match shape {
-        Shape::Single => whole_of(c, halves, points),
-        Shape::Double if k == 0 => half0_of(c, halves, points),
-        Shape::Double => half1_of(c, halves, points),
-        Shape::Fan(n) => spoke_of(c, halves, points, n, k),
+    if n == 3 {
+        return whole_of(c, halves, points);
     }
+    if two {
+        if k == 0 {
+            return half0_of(c, halves, points);
+        }
+        return half1_of(c, halves, points);
+    }
+    spoke_of(c, halves, points, n, k)
 }

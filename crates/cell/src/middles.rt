@@ -21,10 +21,10 @@ use place::Place;
 pub(crate) fn fan_of(n: usize, normal: bool) -> usize
     ensures { result ≡ one (has_middle n normal) }
 {
-    if n == 0 || n == 3 || n == 4 && normal {
-        0
-    } else {
-        1
+    match n {
+        0 | 3 => 0,
+        4 if normal => 0,
+        _ => 1,
     }
 }
 

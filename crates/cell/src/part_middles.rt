@@ -1,5 +1,6 @@
 // The middles of the fans of one cell by value, written among the points of an area: those of the sub-cells of a split are written so. The loop is that of
 // `middles`, whose functions have one caller each, for the compiler to make one of them (SPEED.md).
+// Stays: beside these, since with a second caller they were compiled apart, up to a quarter slower (DECISIONS 8.18).
 ghost use Rattle.std.specs.Prelude.{◌≡◌, ◌*◌};
 ghost use Rattle.counting.specs.work.Stored.{Stored};
 ghost use Rattle.place.specs.Place.{coordinates, place_at, all_numbers};

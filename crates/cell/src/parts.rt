@@ -1,24 +1,24 @@
 // The triangles of the loops of one cell by value, or of those of one length, as words in a lent area: the sub-cells of a split are written so. The loop is that
 // of `triangles`, whose functions have one caller each, for the compiler to make one of them (SPEED.md).
-ghost use Rattle.std.specs.Prelude.{◌≡◌, ◌+◌, ◌*◌, ◌≤◌, length};
+// Stays: beside these, since with a second caller they were compiled apart, up to a third slower (DECISIONS 8.18).
+ghost use Rattle.std.specs.Prelude.{◌≡◌, true, ◌+◌, ◌*◌, ◌≤◌, length};
 ghost use Rattle.std.proofs.lemmas.List.Edits.{sets};
 ghost use Rattle.counting.specs.Lists.{values};
 ghost use Rattle.counting.specs.Stored.{stored_in};
 ghost use Rattle.counting.specs.claims.Lists.{next_in};
-ghost use Rattle.manifold.specs.Shape.{fan};
+ghost use Rattle.manifold.specs.Shape.{fan, shape_of, many_of};
 ghost use Rattle.cell.specs.work.Route.{limited};
 ghost use Rattle.cell.specs.work.Walked.{Room, Used};
 ghost use Rattle.cell.specs.Words.{word_count, all_words};
 ghost use Rattle.cell.specs.Triangles.{triangles_with};
-ghost use Rattle.cell.specs.work.Traced.{RecordedLoop, traced_triangle};
-ghost use Rattle.cell.specs.work.Drawn.{length_of, many_in, drawn_triangles};
+ghost use Rattle.cell.specs.work.Traced.{RecordedLoop, traced_triangle, traced_triangles};
 
-use super::make::{half0_of, half1_of, spoke_of, whole_of};
+use super::make::{half0_of, half1_of, in_two, spoke_of, whole_of};
 use super::routes::{crossings_of, routes_of, within};
 use super::triangles::{has_room, leaves_out};
 use super::walks::{clear, walk};
 use super::words::{WORD_COUNT, put};
-use super::{Cell, FEW_IN_CELL, MOST_IN_CELL, Shape};
+use super::{Cell, FEW_IN_CELL, MOST_IN_CELL};
 
 // Writes the triangles of a recorded fan of n from index `at` on, and answers the next index.
 fn write_fan(c: Cell, halves: &[u8], points: &[u32], n: usize, area: &mut [u32], at: usize) -> usize
@@ -40,29 +40,29 @@ fn write_shape(
     c: Cell,
     halves: &[u8],
     points: &[u32],
-    shape: Shape,
+    n: usize,
+    two: bool,
     area: &mut [u32],
     at: usize,
 ) -> usize
-    requires recorded_loop { RecordedLoop halves.now points.now (length_of shape) }
-    requires shape_in_bounds { at + word_count * many_in shape ≤ length area.old }
-    ensures { (result ≡ at + word_count * many_in shape) × (area.new ≡ sets area.old at (all_words (drawn_triangles c halves.now points.now shape))) }
+    requires recorded_loop { RecordedLoop halves.now points.now n }
+    requires n_value { two ≡ true → n ≡ 4 }
+    requires n_in_bounds { at + word_count * many_of (shape_of n two) n ≤ length area.old }
+    ensures { (result ≡ at + word_count * many_of (shape_of n two) n) × (area.new ≡ sets area.old at (all_words (traced_triangles c halves.now points.now n two))) }
 {
-    match shape {
-        Shape::Single => {
-            let t = whole_of(c, halves, points);
-            put(area, at, t);
-            at + WORD_COUNT
-        }
-        Shape::Double => {
-            let t = half0_of(c, halves, points);
-            put(area, at, t);
-            let u = half1_of(c, halves, points);
-            put(area, at + WORD_COUNT, u);
-            at + 2 * WORD_COUNT
-        }
-        Shape::Fan(n) => write_fan(c, halves, points, n, area, at),
+    if n == 3 {
+        let t = whole_of(c, halves, points);
+        put(area, at, t);
+        return at + WORD_COUNT;
     }
+    if two {
+        let t = half0_of(c, halves, points);
+        put(area, at, t);
+        let u = half1_of(c, halves, points);
+        put(area, at + WORD_COUNT, u);
+        return at + 2 * WORD_COUNT;
+    }
+    write_fan(c, halves, points, n, area, at)
 }
 
 // Writes the words of the triangles of the loops asked for, which have room from index `at` on, and answers the next index.
@@ -90,8 +90,8 @@ fn write_part(
         if leaves_out(only, m) {
             continue;
         }
-        let shape = Shape::of(m, w.normal);
-        i = write_shape(c, &halves[0..m], &points[0..m], shape, area, i);
+        let two = in_two(m, w.normal);
+        i = write_shape(c, &halves[0..m], &points[0..m], m, two, area, i);
     }
     i
 }
@@ -118,7 +118,6 @@ fn put_part(
 }
 
 // Sizes of arrays for the walks of a cell, so that not much more is cleared than it has crossings.
-// Stays: a block for each size in `write_loops`, as at `FEW_IN_CELL`: a struct with its size as a const parameter was measured slower there.
 pub(crate) const SOME_IN_CELL: usize = 192;
 
 const MANY_IN_CELL: usize = 6144;

@@ -11,12 +11,12 @@ ghost use Rattle.cell.specs.work.Nth.{nth_of, nth_numbers, nth_answer};
 ghost use Rattle.counting.specs.Stored.{stored_in};
 ghost use Rattle.counting.specs.claims.Lists.{next_in};
 
-use super::make::triangle_of;
+use super::make::{in_two, many, triangle_of};
 use super::routes::{crossings_of, routes_of, within};
 use super::walks::{clear, walk};
 use super::words::WORD_COUNT;
 use super::write::write_loop;
-use super::{Cell, MOST_IN_CELL, Shape, Triangle};
+use super::{Cell, MOST_IN_CELL, Triangle};
 
 // Whether a loop of n segments is left out where those of length `only` are asked for, or all where that is 0.
 pub(crate) fn leaves_out(only: usize, n: usize) -> bool
@@ -46,7 +46,7 @@ fn count(
         if leaves_out(only, w.length) {
             continue;
         }
-        t += Shape::of(w.length, w.normal).triangles();
+        t += many(w.length, in_two(w.length, w.normal));
     }
     t
 }
@@ -72,8 +72,8 @@ fn write(
     for p in 0..n {
         let w = walk(c, &routes, n, p, marks, halves, points);
         let m = w.length;
-        let shape = Shape::of(m, w.normal);
-        i = write_loop(c, &halves[0..m], &points[0..m], shape, area, i);
+        let two = in_two(m, w.normal);
+        i = write_loop(c, &halves[0..m], &points[0..m], m, two, area, i);
     }
     i
 }
@@ -144,10 +144,10 @@ pub fn triangle_at(c: Cell, t: usize) -> Option<Triangle>
     for p in 0..n {
         let w = walk(v, &routes, n, p, &mut marks, &mut halves, &mut points);
         let m = w.length;
-        let shape = Shape::of(m, w.normal);
-        let k = shape.triangles();
+        let two = in_two(m, w.normal);
+        let k = many(m, two);
         if left < k {
-            return Some(triangle_of(v, &halves[0..m], &points[0..m], shape, left));
+            return Some(triangle_of(v, &halves[0..m], &points[0..m], m, two, left));
         }
         left -= k;
     }

@@ -12,6 +12,7 @@ use super::routes::ROUTES;
 use super::{Cell, Dart, Trip, half_edges, routes, steps};
 
 // The mark of a crossing that no walk has come to.
+// Stays: a number and no Option, since a mark has 16 bits (fixed memory).
 const UNMARKED: u16 = 65535;
 
 // Whether crossing p is one of edge e.

@@ -9,6 +9,7 @@ use super::{Corner, Side, Triangle};
 pub const WORD_COUNT: usize = 11;
 
 // The word that stands for no crossing and no face.
+// Stays: a number, as the C interface has it.
 pub const NO_NAME: u32 = 4294967295;
 
 fn corner_word(x: Corner) -> u32

@@ -31,4 +31,7 @@ returns-in-4 c = first_is refl (omega arith) c.in-4.is
 
 pub returns-in_default : goal.returns-in_default
 unfolding half_of first_slot
-returns-in_default c = first_is {e = c.args.e} {i = 5} refl (omega arith) (omega (arith, c.requires, c.in_default))
+returns-in_default c = let l = c.requires in
+    let r = c.in_default.in_default-own.rest in
+    let is : c.args.e ≡ 5 = omega (arith, l, r.0.0.0.0.1, r.0.0.0.1, r.0.0.1, r.0.1, r.1) in
+    first_is refl (omega arith) is

@@ -1,9 +1,16 @@
+use native.Mathlib.Omega.{arith}
 use mathlib.Core.Logic.{⊎_elim}
 use Rattle.cell.proofs.Fans.{fan_none, fan_three, fan_normal, fan_else}
 use Rattle.cell.proofs.middles.fan_of.Goals as goal
 
-pub returns-then-normal : goal.returns-then-normal
-returns-then-normal c = ⊎_elim (fan_none _ _) (⊎_elim (λ h. fan_three _ _ h.1) (λ h. fan_normal _ _ h.2 h.3)) c.if-normal.either
+pub returns-in-0 : goal.returns-in-0
+returns-in-0 c = ⊎_elim (fan_none _ _) (fan_three _ _) c.in-0.is
 
-pub returns-else-normal : goal.returns-else-normal
-returns-else-normal c = ⊎_elim (λ h. fan_else _ _ h.0 h.1 (λ e. h.3)) (λ h. fan_else _ _ h.0 h.1 (λ e. absurd (h.2 e))) c.if-normal.either
+pub returns-in-4 : goal.returns-in-4
+returns-in-4 c = fan_normal _ _ c.in-4.is c.if-normal.true
+
+pub returns-in_default : goal.returns-in_default
+returns-in_default c = fan_else _ _ (omega arith) (omega arith) (λ e. c.if-normal.false)
+
+pub returns-in_default-2 : goal.returns-in_default-2
+returns-in_default-2 c = fan_else _ _ (grind (arith, c.in_default)) (grind (arith, c.in_default)) (λ e. absurd (grind (arith, c.in_default)))

@@ -2,6 +2,7 @@ use native.Mathlib.Omega.{arith}
 use mathlib.Core.Path.{◌∙◌}
 use Rattle.counting.proofs.Stored.{summed_none}
 use Rattle.cell.proofs.Going.{going_start, going_lent, going_more, going_looped, going_used}
+use Rattle.cell.proofs.Taken.{two_four}
 use Rattle.cell.proofs.Holding.{looped_many, is_out, is-in}
 use Rattle.cell.proofs.Cells.{counted_more, counted_less, counted_all}
 use Rattle.cell.proofs.triangles.count.Goals as goal
@@ -24,11 +25,14 @@ loop-p-preserved-then-leaves_out c = let L = c.loop-p in
     let O = going_looped L.invariant.0 (omega arith) W in
     (going_more L.invariant.0 (omega arith) W, counted_less c.args.only O L.invariant.1 (is_out c.args.only O c.leaves_out.ensures c.if-leaves_out.true))
 
+pub many-t-requires : goal.many-t-requires
+many-t-requires c = two_four _ _ _ c.in_two.ensures
+
 pub overflow_add-t : goal.overflow_add-t
-overflow_add-t c = omega (arith, (counted_more c.args.only (going_looped c.loop-p.invariant.0 (omega arith) c.walk-w.ensures) c.loop-p.invariant.1 _ (is-in c.args.only (going_looped c.loop-p.invariant.0 (omega arith) c.walk-w.ensures) c.leaves_out.ensures c.if-leaves_out.false) (c.triangles-t.ensures ∙ looped_many (going_looped c.loop-p.invariant.0 (omega arith) c.walk-w.ensures) _ c.of.ensures)).few, c.loop-p.invariant.0.few)
+overflow_add-t c = omega (arith, (counted_more c.args.only (going_looped c.loop-p.invariant.0 (omega arith) c.walk-w.ensures) c.loop-p.invariant.1 _ (is-in c.args.only (going_looped c.loop-p.invariant.0 (omega arith) c.walk-w.ensures) c.leaves_out.ensures c.if-leaves_out.false) (c.many-t.ensures ∙ looped_many (going_looped c.loop-p.invariant.0 (omega arith) c.walk-w.ensures) c.in_two.ensures)).few, c.loop-p.invariant.0.few)
 
 pub loop-p-preserved : goal.loop-p-preserved
-loop-p-preserved c = (going_more c.loop-p.invariant.0 (omega arith) c.walk-w.ensures, counted_more c.args.only (going_looped c.loop-p.invariant.0 (omega arith) c.walk-w.ensures) c.loop-p.invariant.1 _ (is-in c.args.only (going_looped c.loop-p.invariant.0 (omega arith) c.walk-w.ensures) c.leaves_out.ensures c.if-leaves_out.false) (c.triangles-t.ensures ∙ looped_many (going_looped c.loop-p.invariant.0 (omega arith) c.walk-w.ensures) _ c.of.ensures))
+loop-p-preserved c = (going_more c.loop-p.invariant.0 (omega arith) c.walk-w.ensures, counted_more c.args.only (going_looped c.loop-p.invariant.0 (omega arith) c.walk-w.ensures) c.loop-p.invariant.1 _ (is-in c.args.only (going_looped c.loop-p.invariant.0 (omega arith) c.walk-w.ensures) c.leaves_out.ensures c.if-leaves_out.false) (c.many-t.ensures ∙ looped_many (going_looped c.loop-p.invariant.0 (omega arith) c.walk-w.ensures) c.in_two.ensures))
 
 pub shape_of-marks : goal.shape_of-marks
 shape_of-marks c = (going_used c.loop-p.invariant.0 c.requires.long.marks_long c.clear.ensures).marks_kept.long

@@ -10,7 +10,8 @@ use Rattle.cell.specs.Triangles.{cell_triangles}
 use Rattle.cell.proofs.Using.{filled_same, limited_near}
 use Rattle.cell.proofs.Going.{going_start, going_in, going_lent, going_more, going_looped, going_part}
 use Rattle.cell.proofs.LoopTriangles.{traced_entry}
-use Rattle.cell.proofs.Holding.{looped_shaped, looped_loop, looped_many}
+use Rattle.cell.proofs.Taken.{two_four}
+use Rattle.cell.proofs.Holding.{looped_traced, looped_four, looped_loop, looped_many}
 use Rattle.cell.proofs.Cells.{seeking_none, seeking_more, triangle_off, triangle_here}
 use Rattle.cell.proofs.triangles.triangle_at.Goals as goal
 
@@ -43,6 +44,9 @@ slice_bounds-walk-end-in-loop-p-2 c = sym c.loop-p.invariant.0.used.points_kept.
 pub walk-w-requires : goal.walk-w-requires
 walk-w-requires c = going_lent c.loop-p.invariant.0 (omega arith)
 
+pub many-k-requires : goal.many-k-requires
+many-k-requires c = two_four _ _ _ c.in_two-two.ensures
+
 pub slice_bounds-triangle_of-end : goal.slice_bounds-triangle_of-end
 slice_bounds-triangle_of-end c = (going_part c.loop-p.invariant.0 (omega arith) c.walk-w.ensures).0
 
@@ -50,13 +54,13 @@ pub slice_bounds-triangle_of-end-then-left-k : goal.slice_bounds-triangle_of-end
 slice_bounds-triangle_of-end-then-left-k c = (going_part c.loop-p.invariant.0 (omega arith) c.walk-w.ensures).1
 
 pub triangle_of-requires : goal.triangle_of-requires
-triangle_of-requires c = let L = going_looped c.loop-p.invariant.0 (omega arith) c.walk-w.ensures in record { recorded_loop = looped_shaped L _ c.of-shape.ensures; k_bound = omega (arith, c.triangles-k.ensures) }
+triangle_of-requires c = let L = going_looped c.loop-p.invariant.0 (omega arith) c.walk-w.ensures in record { recorded_loop = looped_traced L; n_value = looped_four L c.in_two-two.ensures; k_bound = omega (arith, c.many-k.ensures) }
 
 pub returns-then-left-k : goal.returns-then-left-k
-returns-then-left-k c = let L = going_looped c.loop-p.invariant.0 (omega arith) c.walk-w.ensures in as_limited c.args.t c.within-v.ensures (triangle_here _ c.loop-p.invariant.1 (going_in c.loop-p.invariant.0 (omega arith)) _ (looped_loop L _ c.of-shape.ensures) (omega (arith, looped_many L _ c.of-shape.ensures, c.triangles-k.ensures)) (traced_entry _ _ _ _ _ _ (omega (arith, c.triangles-k.ensures)) c.triangle_of.ensures))
+returns-then-left-k c = let L = going_looped c.loop-p.invariant.0 (omega arith) c.walk-w.ensures in as_limited c.args.t c.within-v.ensures (triangle_here _ c.loop-p.invariant.1 (going_in c.loop-p.invariant.0 (omega arith)) _ (looped_loop L c.in_two-two.ensures) (omega (arith, looped_many L c.in_two-two.ensures, c.many-k.ensures)) (traced_entry _ _ _ _ _ _ (omega (arith, c.many-k.ensures)) c.triangle_of.ensures))
 
 pub loop-p-preserved : goal.loop-p-preserved
-loop-p-preserved c = (going_more c.loop-p.invariant.0 (omega arith) c.walk-w.ensures, seeking_more _ c.loop-p.invariant.1 _ (c.triangles-k.ensures ∙ looped_many (going_looped c.loop-p.invariant.0 (omega arith) c.walk-w.ensures) _ c.of-shape.ensures) (omega arith))
+loop-p-preserved c = (going_more c.loop-p.invariant.0 (omega arith) c.walk-w.ensures, seeking_more _ c.loop-p.invariant.1 _ (c.many-k.ensures ∙ looped_many (going_looped c.loop-p.invariant.0 (omega arith) c.walk-w.ensures) c.in_two-two.ensures) (omega arith))
 
 pub returns : goal.returns
 returns c = as_limited c.args.t c.within-v.ensures (triangle_off _ c.loop-p.invariant.1 (omega (arith, c.loop-p.invariant.0.up, c.loop-p.invariant.0.all)))

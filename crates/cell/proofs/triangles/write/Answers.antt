@@ -7,7 +7,7 @@ use Rattle.cell.specs.Cell.{crossings}
 use Rattle.cell.specs.Of.{edges_of}
 use Rattle.cell.specs.Triangles.{asked_triangles, triangles_with}
 use Rattle.cell.proofs.Going.{going_start, going_in, going_lent, going_more, going_looped, going_part, going_used}
-use Rattle.cell.proofs.Holding.{looped_shaped, looped_loop, looped_many, in-loop}
+use Rattle.cell.proofs.Holding.{looped_traced, looped_four, looped_loop, looped_many, in-loop}
 use Rattle.cell.proofs.Storing.{written_all, written_room, written_more}
 use Rattle.cell.proofs.triangles.write.Goals as goal
 
@@ -32,10 +32,10 @@ slice_bounds-write_loop-end-in-loop-p c = (going_part c.loop-p.invariant.0 (omeg
 
 pub write_loop-i-requires : goal.write_loop-i-requires
 unfolding triangles_with
-write_loop-i-requires c = let L = going_looped c.loop-p.invariant.0 (omega arith) c.walk-w.ensures in let a = in-loop 0 L refl refl in record { recorded_loop = looped_shaped L _ c.of-shape.ensures; shape_in_bounds = omega (arith, ap length a, looped_many L _ c.of-shape.ensures, written_room _ _ c.loop-p.invariant.1 _ (going_in c.loop-p.invariant.0 (omega arith)), stored_long c.loop-p.invariant.1, c.requires.c_in_bounds) }
+write_loop-i-requires c = let L = going_looped c.loop-p.invariant.0 (omega arith) c.walk-w.ensures in let a = in-loop 0 L refl refl in record { recorded_loop = looped_traced L; n_value = looped_four L c.in_two-two.ensures; n_in_bounds = omega (arith, ap length a, looped_many L c.in_two-two.ensures, written_room _ _ c.loop-p.invariant.1 _ (going_in c.loop-p.invariant.0 (omega arith)), stored_long c.loop-p.invariant.1, c.requires.c_in_bounds) }
 
 pub loop-p-preserved : goal.loop-p-preserved
-loop-p-preserved c = let L = going_looped c.loop-p.invariant.0 (omega arith) c.walk-w.ensures in let a = in-loop 0 L refl refl in (going_more c.loop-p.invariant.0 (omega arith) c.walk-w.ensures, written_more _ _ c.loop-p.invariant.1 (looped_many L _ c.of-shape.ensures ∙ ap length (sym a)) c.write_loop-i.ensures.0 (looped_loop L _ c.of-shape.ensures ∙ sym a) c.write_loop-i.ensures.1)
+loop-p-preserved c = let L = going_looped c.loop-p.invariant.0 (omega arith) c.walk-w.ensures in let a = in-loop 0 L refl refl in (going_more c.loop-p.invariant.0 (omega arith) c.walk-w.ensures, written_more _ _ c.loop-p.invariant.1 (looped_many L c.in_two-two.ensures ∙ ap length (sym a)) c.write_loop-i.ensures.0 (looped_loop L c.in_two-two.ensures ∙ sym a) c.write_loop-i.ensures.1)
 
 pub shape_of-marks : goal.shape_of-marks
 shape_of-marks c = (going_used c.loop-p.invariant.0 c.requires.room.long.marks_long c.clear.ensures).marks_kept.long
