@@ -25,7 +25,7 @@ mod cuts;
 mod tables;
 mod words;
 
-use tables::{MARKS, OwnTables};
+use tables::MARKS;
 use words::CROSSINGS;
 
 // The whole grid as it is lent, with the names of its faces and the edges of its sides.
@@ -51,21 +51,20 @@ fn draw_run(whole: Whole, run: Span, area: &mut [u32]) -> DrawnSums
     requires mark { 0 < run.mark }
     ensures { RunDrawn (lent whole.entry.grid) run.from run.size area.old area.new result.triangles result.splits }
 {
-    let mut own = OwnTables {
-        names: [0; MOST_SLOTS],
-        sides: [0; MOST_EDGES],
-        starts: [0; MOST_EDGES],
-        used: [0; MARKS],
-    };
-    own.lay(whole, run);
+    let mut names = [0u16; MOST_SLOTS];
+    let mut sides = [0u16; MOST_EDGES];
+    let mut starts = [0u32; MOST_EDGES];
+    let mut used = [0u16; MARKS];
+    run.copy(whole.names, whole.sides, &mut names, &mut sides);
+    run.start(whole.grid.counts, whole.sides, &mut used, &mut starts);
     let first = 4 * run.from;
     let end = first + 4 * run.size;
     let tables = Tables {
         cells: &whole.grid.cells[first..end],
         counts: whole.grid.counts,
-        names: &own.names,
-        sides: &own.sides,
-        starts: &own.starts,
+        names: &names,
+        sides: &sides,
+        starts: &starts,
     };
     split::draw(tables, area)
 }
@@ -118,36 +117,40 @@ fn draw_at(tables: Tables, area: &mut [u32], at: usize) -> DrawnSums
     split::draw(tables, &mut area[at..])
 }
 
-// Writes the mesh of one run from index `at` on, in its own names, then puts these into those of the whole, and answers the next index. All marks are
-// below the run's.
+// Writes the mesh of one run from index `at` on, in its own names, then puts these into those of the whole, and answers the next index. The arrays are for
+// the run's tables; all marks in `used` are below the run's.
 fn join_run(
     whole: Whole,
     run: Span,
-    own: &mut OwnTables,
+    names: &mut [u16; MOST_SLOTS],
+    sides: &mut [u16; MOST_EDGES],
+    starts: &mut [u32; MOST_EDGES],
+    used: &mut [u16; MARKS],
     over: &mut [u16; CROSSINGS],
     area: &mut [u32],
     at: usize,
 ) -> usize
-    requires { WholeJoinableRun whole run.from run.size run.mark at (length area.old) own.old.used }
-    ensures marks { (e : ℕ) → get_or own.new.used e 0 ≤ run.mark }
+    requires { WholeJoinableRun whole run.from run.size run.mark at (length area.old) used.old }
+    ensures marks { (e : ℕ) → get_or used.new e 0 ≤ run.mark }
     ensures stored { Stored area.old at (all_words (run_renamed (lent whole.entry.grid) run.from run.size)) area.new result }
 {
-    own.lay(whole, run);
+    run.copy(whole.names, whole.sides, names, sides);
+    run.start(whole.grid.counts, whole.sides, used, starts);
     let first = 4 * run.from;
     let end = first + 4 * run.size;
     let tables = Tables {
         cells: &whole.grid.cells[first..end],
         counts: whole.grid.counts,
-        names: &own.names,
-        sides: &own.sides,
-        starts: &own.starts,
+        names,
+        sides,
+        starts,
     };
     let d = draw_at(tables, area, at);
     run.number_sides(
         whole.grid.counts,
         whole.grid.starts,
         whole.sides,
-        &own.starts,
+        starts,
         over,
     );
     words::put_over(whole.names, over, run.from, area, at, d.triangles);
@@ -159,17 +162,25 @@ fn join_runs(whole: Whole, cuts: &[u16], area: &mut [u32]) -> usize
     requires { WholeJoinable whole cuts.now (length area.old) }
     ensures { Stored area.old 0 (all_words (joined_mesh (lent whole.entry.grid) cuts.now)) area.new result }
 {
-    let mut own = OwnTables {
-        names: [0; MOST_SLOTS],
-        sides: [0; MOST_EDGES],
-        starts: [0; MOST_EDGES],
-        used: [0; MARKS],
-    };
+    let mut names = [0u16; MOST_SLOTS];
+    let mut sides = [0u16; MOST_EDGES];
+    let mut starts = [0u32; MOST_EDGES];
+    let mut used = [0u16; MARKS];
     let mut over = [0u16; CROSSINGS];
     let mut i = 0;
     for r in 0..cuts.len() + 1 {
         let run = Span::of(cuts, whole.grid.cells.len() / 4, r);
-        i = join_run(whole, run, &mut own, &mut over, area, i);
+        i = join_run(
+            whole,
+            run,
+            &mut names,
+            &mut sides,
+            &mut starts,
+            &mut used,
+            &mut over,
+            area,
+            i,
+        );
     }
     i
 }

@@ -4,10 +4,10 @@ ghost use Rattle.counting.specs.Pick.{pick};
 ghost use Rattle.std.proofs.lemmas.List.Edits.{sets};
 ghost use Rattle.counting.specs.Lists.{values};
 ghost use Rattle.counting.specs.Stored.{filled};
-ghost use Rattle.layers.specs.work.Work.{name_from, side_from, Moving, EdgesMarking, EdgesMarked, Adding, StartsSumming, StartsSummed, marked_start, Layable, RunLaid, Copied, Started};
+ghost use Rattle.layers.specs.work.Work.{name_from, side_from, Moving, EdgesMarking, EdgesMarked, Adding, StartsSumming, StartsSummed, marked_start, Layable, Copied, Started};
 ghost use Rattle.slots.specs.Limits.{most_cells};
 
-use super::{Span, Whole};
+use super::Span;
 use grid::{MOST_EDGES, MOST_SLOTS};
 
 // The name x counted from `base` on; j where it is lower.
@@ -99,34 +99,9 @@ fn write_starts(counts: &[u16], used: &[u16], m: u16, starts: &mut [u32])
     }
 }
 
-// The tables of a run: the names of its faces, its sides, the starts of its edges, and what edges are marked with.
-#[derive(Drop)]
-pub(crate) struct OwnTables {
-    pub(crate) names: [u16; MOST_SLOTS],
-    pub(crate) sides: [u16; MOST_EDGES],
-    pub(crate) starts: [u32; MOST_EDGES],
-    pub(crate) used: [u16; MARKS],
-}
-
-impl OwnTables {
-    // Those of a run of the whole. All marks are below the run's.
-    pub(crate) fn lay(&mut self, whole: Whole, run: Span)
-        requires { Layable whole.grid.counts.now whole.sides.now self.old.used run.from run.size run.mark }
-        ensures { RunLaid whole.entry.grid.counts.now whole.entry.names.now whole.entry.sides.now run.from run.size run.mark self.new.names self.new.sides self.new.starts self.new.used }
-    {
-        run.copy(whole.names, whole.sides, &mut self.names, &mut self.sides);
-        run.start(
-            whole.grid.counts,
-            whole.sides,
-            &mut self.used,
-            &mut self.starts,
-        );
-    }
-}
-
 impl Span {
     // The names of the run's faces, and its sides, which keep the whole's edge numbers.
-    fn copy(
+    pub(crate) fn copy(
         self,
         names: &[u16; MOST_SLOTS],
         sides: &[u16; MOST_EDGES],
@@ -141,7 +116,7 @@ impl Span {
     }
 
     // The starts of the run's edges. All marks are below the run's.
-    fn start(
+    pub(crate) fn start(
         self,
         counts: &[u16],
         sides: &[u16; MOST_EDGES],

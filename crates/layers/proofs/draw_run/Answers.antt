@@ -2,8 +2,11 @@ use native.Mathlib.Omega.{arith}
 use Rattle.layers.proofs.Laying.{layable, zero_below, run_drawn}
 use Rattle.layers.proofs.draw_run.Goals as goal
 
-pub lay-requires : goal.lay-requires
-lay-requires c = let A = c.args in
+pub copy-requires : goal.copy-requires
+copy-requires c = let R = c.requires.run in omega (arith, R.run.within, R.tables.sound.few_cells)
+
+pub start-requires : goal.start-requires
+start-requires c = let A = c.args in
     let R = c.requires.run in
     layable R.tables A.run.from A.run.size R.run _ A.run.mark (λ e. omega (arith, zero_below 12480 e, c.requires.mark))
 
@@ -30,4 +33,4 @@ slice_bounds-tables-end c = let R = c.requires.run in omega (arith, R.run.within
 
 pub returns : goal.returns
 returns c = let D = c.draw.ensures in
-    run_drawn c.requires.run c.lay.ensures D.triangles_value.0 D.triangles_value.1 D.triangles_value.2 D.area_after
+    run_drawn c.requires.run (record { copied = c.copy.ensures; started = c.start.ensures }) D.triangles_value.0 D.triangles_value.1 D.triangles_value.2 D.area_after

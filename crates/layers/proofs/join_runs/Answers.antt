@@ -17,7 +17,7 @@ of-run-requires c = next_cut c.requires c.loop-r.r (omega arith)
 pub join_run-i-requires : goal.join_run-i-requires
 join_run-i-requires c = let L = c.loop-r in
     let S = c.of-run.ensures in
-    next_joinable c.requires L.r (omega arith) _ _ S.0 S.1 L.invariant.stored refl L.own.used (λ e. omega (arith, L.invariant.marks e, S.2))
+    next_joinable c.requires L.r (omega arith) _ _ S.0 S.1 L.invariant.stored refl L.used (λ e. omega (arith, L.invariant.marks e, S.2))
 
 pub loop-r-preserved : goal.loop-r-preserved
 loop-r-preserved c = let L = c.loop-r in
