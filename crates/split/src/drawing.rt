@@ -72,7 +72,9 @@ fn put_at(tables: Tables, s: SplitCell, area: &mut [u32], at: usize) -> usize
     put_cell(c, s.splits, area, at)
 }
 
-// Writes the words of the triangles of the loops of the cells from c up to `end`: they have room from index `at` on. Answers the next index.
+// Writes the words of the triangles of the loops of the cells from c up to `end`: they have room from index `at` on. Answers the next index. Inlined, so that the
+// arrays of the walks lie where those of the count lay.
+#[inline(always)]
 fn put_stretch(tables: Tables, c: usize, end: usize, area: &mut [u32], at: usize) -> usize
     requires { at + length (words_of_loops tables c (end - c)) ≤ length area.old }
     ensures { Stored area.old at (words_of_loops tables.entry c (end - c)) area.new result }
