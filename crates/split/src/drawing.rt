@@ -5,7 +5,8 @@ ghost use Rattle.counting.specs.Stored.{stored_in};
 ghost use Rattle.counting.specs.work.Stored.{Stored};
 ghost use Rattle.cell.specs.Words.{word_count, all_words};
 ghost use Rattle.cell.specs.claims.Table.{drawn_cells};
-ghost use Rattle.cell.specs.work.Tables.{cell_in, drawn_in};
+ghost use Rattle.cell.specs.work.Table.{most_triangles};
+ghost use Rattle.cell.specs.work.Tables.{cell_in, drawn_in, triangles_all};
 ghost use Rattle.split.specs.Parts.{drawn_triangles};
 ghost use Rattle.split.specs.work.Table.{most_drawn};
 ghost use Rattle.split.specs.work.Gains.{AreSums};
@@ -72,9 +73,7 @@ fn put_at(tables: Tables, s: SplitCell, area: &mut [u32], at: usize) -> usize
     put_cell(c, s.splits, area, at)
 }
 
-// Writes the words of the triangles of the loops of the cells from c up to `end`: they have room from index `at` on. Answers the next index. Inlined, so that the
-// arrays of the walks lie where those of the count lay.
-#[inline(always)]
+// Writes the words of the triangles of the loops of the cells from c up to `end`: they have room from index `at` on. Answers the next index.
 fn put_stretch(tables: Tables, c: usize, end: usize, area: &mut [u32], at: usize) -> usize
     requires { at + length (words_of_loops tables c (end - c)) ≤ length area.old }
     ensures { Stored area.old at (words_of_loops tables.entry c (end - c)) area.new result }
@@ -109,6 +108,14 @@ fn write_all(tables: Tables, splits: u64, area: &mut [u32]) -> usize
     put_cells(tables, splits, area) / WORD_COUNT
 }
 
+// How many triangles the loops of all cells have. Not inlined, so that the arrays of its walks are gone before those of the writer are there.
+#[inline(never)]
+fn count_all(tables: Tables) -> usize
+    ensures { (result ≡ length (triangles_all tables.entry)) × (result ≤ most_triangles) }
+{
+    booking::count_all(tables)
+}
+
 // The same where they have room; else nothing is written. The cells come to `s`: no loops have more triangles than crossings, so that the triangles are
 // counted first only where the area has not room for so many.
 fn draw_all(tables: Tables, s: CellSums, area: &mut [u32]) -> usize
@@ -117,7 +124,7 @@ fn draw_all(tables: Tables, s: CellSums, area: &mut [u32]) -> usize
 {
     let more = s.more as usize;
     if area.len() < WORD_COUNT * (s.crossings + more) {
-        let t = booking::count_all(tables) + more;
+        let t = count_all(tables) + more;
         if area.len() < WORD_COUNT * t {
             return t;
         }
