@@ -46,7 +46,6 @@ struct Span {
 
 // Writes the mesh of a run, in its own names, from the front of the area on where it has room there, and answers how many triangles and splits it has.
 // 112 KB of stack for the run's tables, besides what `split::draw` keeps.
-// Stays: four arrays and no struct of them, here and in `join_runs`: its literal is made beside it and copied in, 112 KB of stack more than the header has.
 fn draw_run(whole: Whole, run: Span, area: &mut [u32]) -> DrawnSums
     requires run { WholeRun whole run.from run.size }
     requires mark { 0 < run.mark }
