@@ -78,6 +78,9 @@ impl Keys for Block<'_> {
     }
 
     fn key(&self, place: usize) -> usize {
+        if self.count <= place {
+            return 0;
+        }
         key_at(
             self.of.bytes,
             self.of.base + LOOK_BYTES * (self.first + place),

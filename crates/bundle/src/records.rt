@@ -72,8 +72,11 @@ pub fn record_at(bytes: &[u8], start: usize) -> Result<Record, Refusal>
     let Ok(kind) = Kind::try_from(word_at(bytes, start + WORD_BYTES)) else {
         return broken;
     };
+    if length != kind.length() {
+        return broken;
+    }
     let size = WORD_BYTES + length as usize;
-    if length != kind.length() || bytes.len() - start < size {
+    if bytes.len() - start < size {
         return broken;
     }
     if !may_have(bytes, start, kind) {

@@ -38,6 +38,7 @@ use face::{How, Join, Why};
 use flat::FlatGrid;
 use grid::Grid;
 use mesh::Mesh;
+use nearest::Nearest;
 use place::Place;
 
 // The words that hold any answer: CITTERNBLAZE_ANSWER_WORDS of the header.
@@ -614,8 +615,8 @@ pub extern "C" fn citternblaze_nearest(
 {
     // Stays: a match of its own, since a distance has bits that tell it only where it is a number, which this call alone knows.
     match nearest::nearest_point(points, Place { x, y, z }) {
-        Ok(Some(n)) => put(answer, &[0, n.point as u64, f64::to_bits(n.distance)]),
-        Ok(None) => put(answer, &[0]),
+        Ok(Nearest::NoPoint) => put(answer, &[0]),
+        Ok(Nearest::At(k, d)) => put(answer, &[0, k as u64, f64::to_bits(d)]),
         Err(refusal) => put_refusal(answer, refusal),
     }
 }

@@ -19,6 +19,7 @@ use Rattle.counting.proofs.Bools.{clash, holds_or}
 use Rattle.counting.proofs.Search.{first_is, first_below, found_first, found_none}
 use Rattle.place.specs.declared.Place.{Place}
 use Rattle.place.specs.Place.{within, coordinates, numbers}
+use Rattle.nearest.specs.declared.Nearest.TheVariants.{NoPoint, At}
 use Rattle.nearest.specs.Distance.{point_count, distance_of}
 use Rattle.nearest.specs.Answer.{nearest_numbers, beyond, nearest_number, nearest_values, nearest_answer}
 use Rattle.nearest.specs.claims.Fault.{Fault, uneven, listed, asked, Faultless}
@@ -81,7 +82,7 @@ module _ (points : List Float) (query : Place) where
   asked_lt t e = (found_first _ _ t (out_found (numbers query) e)).1
 
   module _ (F : Faultless points query) where
-    pub none_answered : length points ≡ 0 → nearest_numbers None ≡ nearest_answer points query
+    pub none_answered : length points ≡ 0 → nearest_numbers NoPoint ≡ nearest_answer points query
     unfolding nearest_values
     none_answered e = ap result_of (sym (rw (eq-eqb (length points) 0 e))) ∙ faultless_answered points query F
 
@@ -106,7 +107,7 @@ module _ (points : List Float) (query : Place) where
       number_listed = omega (arith, least_found.at, some_point)
 
       -- the answer for a point that is found
-      pub found_answered : (k : ℕ) (x : Float) → k ≡ nearest_number points query → x ≡ d k → nearest_numbers (Some (record { point = k; distance = x })) ≡ nearest_answer points query
+      pub found_answered : (k : ℕ) (x : Float) → k ≡ nearest_number points query → x ≡ d k → nearest_numbers (At k x) ≡ nearest_answer points query
       unfolding nearest_values
       found_answered k x e q =
           let n = nearest_number points query in

@@ -1,7 +1,7 @@
 -- What is claimed of the nearest call.
-use Rattle.std.specs.Prelude.{Option, Some, None, Ok, Err}
+use Rattle.std.specs.Prelude.{Ok, Err}
 use Prim.Native.Nat.{ℕ, ◌-◌}
-use mathlib.Core.Path.{◌≡◌, refl, sym, ap, ap₂, ◌∙◌, subst}
+use mathlib.Core.Path.{◌≡◌, refl, sym, ap, ◌∙◌, subst}
 use mathlib.Core.Logic.{⊎_elim}
 use mathlib.Core.Bool.{Bool, true, false, not}
 use mathlib.Core.List.{List, [], ◌∷◌}
@@ -21,6 +21,7 @@ use Rattle.counting.specs.Pick.{pick}
 use Rattle.counting.proofs.Bools.{and_left, and_right, holds_or}
 use Rattle.place.specs.declared.Place.{Place}
 use Rattle.nearest.specs.declared.Nearest.{Nearest}
+use Rattle.nearest.specs.declared.Nearest.TheVariants.{NoPoint, At}
 use Rattle.nearest.specs.Distance.{point_count, distance_of}
 use Rattle.nearest.specs.Answer.{Measured, has_bits, nearest_numbers, measured_numbers, nearest_rows, nearest_number, nearest_values, nearest_answer}
 use Rattle.nearest.specs.claims.Fault.{Faultless, LowestAt}
@@ -39,42 +40,42 @@ bits_back : (d : Float) → has_bits d ≡ true → of_bits binary64 (to_bits bi
 bits_back d h = of_bits-to_bits binary64 d (subst T (sym (and_left (fits binary64 d) (not (is_nan d)) h)) tt)
 
 -- there is always an answer
-nearest_some : (points : List Float) (query : Place) → [] ≡ nearest_answer points query → ⊥
+pub nearest_some : (points : List Float) (query : Place) → [] ≡ nearest_answer points query → ⊥
 unfolding nearest_answer
 nearest_some points query = answer_some (nearest_rows points query) (nearest_values points query)
 
 -- a point that is answered has its bits, which are those of the answer
 module _ (points : List Float) (query : Place) where
-  at_reads : (p : Nearest) → nearest_numbers (Some p) ≡ nearest_answer points query
-      → (has_bits p.distance ≡ true) × (result_of (p.point ∷ to_bits binary64 p.distance ∷ []) ≡ nearest_answer points query)
-  at_reads p = go (has_bits p.distance) refl
+  at_reads : (n : ℕ) (d : Float) → nearest_numbers (At n d) ≡ nearest_answer points query
+      → (has_bits d ≡ true) × (result_of (n ∷ to_bits binary64 d ∷ []) ≡ nearest_answer points query)
+  at_reads n d = go (has_bits d) refl
     where
-      go : (b : Bool) → has_bits p.distance ≡ b → pick b (result_of (p.point ∷ to_bits binary64 p.distance ∷ [])) [] ≡ nearest_answer points query
-          → (has_bits p.distance ≡ true) × (result_of (p.point ∷ to_bits binary64 p.distance ∷ []) ≡ nearest_answer points query)
+      go : (b : Bool) → has_bits d ≡ b → pick b (result_of (n ∷ to_bits binary64 d ∷ [])) [] ≡ nearest_answer points query
+          → (has_bits d ≡ true) × (result_of (n ∷ to_bits binary64 d ∷ []) ≡ nearest_answer points query)
       go true h e = (h, e)
       go false h e = absurd (nearest_some points query e)
 
-  pub point_reads : (p : Nearest) → nearest_numbers (Some p) ≡ nearest_answer points query
-      → T (not (is_nan p.distance)) × (result_of (p.point ∷ to_bits binary64 p.distance ∷ []) ≡ nearest_answer points query)
-  point_reads p e = let (h, q) = at_reads p e in (subst T (sym (and_right (fits binary64 p.distance) (not (is_nan p.distance)) h)) tt, q)
+  pub point_reads : (n : ℕ) (d : Float) → nearest_numbers (At n d) ≡ nearest_answer points query
+      → T (not (is_nan d)) × (result_of (n ∷ to_bits binary64 d ∷ []) ≡ nearest_answer points query)
+  point_reads n d e = let (h, q) = at_reads n d e in (subst T (sym (and_right (fits binary64 d) (not (is_nan d)) h)) tt, q)
 
   -- two values with one reading that is the answer
-  nearest_tells : (x y : Option Nearest) → nearest_numbers x ≡ nearest_answer points query → nearest_numbers y ≡ nearest_answer points query → x ≡ y
-  nearest_tells None None a b = refl
-  nearest_tells None (Some p) a b = absurd (let q = a ∙ sym (at_reads p b).1 in cc)
-  nearest_tells (Some p) None a b = absurd (let q = b ∙ sym (at_reads p a).1 in cc)
-  nearest_tells (Some p) (Some r) a b =
-      let (g, u) = at_reads p a in
-      let (h, v) = at_reads r b in
-      let x : p.point ≡ r.point = cc in
-      let y : to_bits binary64 p.distance ≡ to_bits binary64 r.distance = cc in
-      let z : p.distance ≡ r.distance = sym (bits_back p.distance g) ∙ ap (of_bits binary64) y ∙ bits_back r.distance h in
-      ap₂ (λ n d. Some (record { point = n; distance = d })) x z
+  nearest_tells : (x y : Nearest) → nearest_numbers x ≡ nearest_answer points query → nearest_numbers y ≡ nearest_answer points query → x ≡ y
+  nearest_tells NoPoint NoPoint a b = refl
+  nearest_tells NoPoint (At n d) a b = absurd (let q = a ∙ sym (at_reads n d b).1 in cc)
+  nearest_tells (At n d) NoPoint a b = absurd (let q = b ∙ sym (at_reads n d a).1 in cc)
+  nearest_tells (At n d) (At m e) a b =
+      let (g, u) = at_reads n d a in
+      let (h, v) = at_reads m e b in
+      let x : n ≡ m = cc in
+      let y : to_bits binary64 d ≡ to_bits binary64 e = cc in
+      let z : d ≡ e = sym (bits_back d g) ∙ ap (of_bits binary64) y ∙ bits_back e h in
+      rw (x, z)
 
   -- a result is no refusal
-  result_not : (x : Option Nearest) (r : Refusal) → nearest_numbers x ≡ nearest_answer points query → refusal_numbers r ≡ nearest_answer points query → ⊥
-  result_not None r a b = let q = b ∙ sym a in row_not r.row cc
-  result_not (Some p) r a b = let q = b ∙ sym (at_reads p a).1 in row_not r.row cc
+  result_not : (x : Nearest) (r : Refusal) → nearest_numbers x ≡ nearest_answer points query → refusal_numbers r ≡ nearest_answer points query → ⊥
+  result_not NoPoint r a b = let q = b ∙ sym a in row_not r.row cc
+  result_not (At n d) r a b = let q = b ∙ sym (at_reads n d a).1 in row_not r.row cc
 
   tells : (r s : Measured) → measured_numbers r ≡ nearest_answer points query → measured_numbers s ≡ nearest_answer points query → r ≡ s
   tells (Ok x) (Ok y) a b = ap Ok (nearest_tells x y a b)
@@ -90,7 +91,7 @@ abbrev fault_at : ℕ → Measured
 fault_at p = Err (record { row = Points; place = p })
 
 abbrev point_at : ℕ → Float → Measured
-point_at n d = Ok (Some (record { point = n; distance = d }))
+point_at n d = Ok (At n d)
 
 module _ (points : List Float) (query : Place) (r : Measured) (e : measured_numbers r ≡ nearest_answer points query) where
   -- the answer is one of three
@@ -98,8 +99,8 @@ module _ (points : List Float) (query : Place) (r : Measured) (e : measured_numb
   refused_is p L = measured_told points query r (fault_at p) e (lowest_refused points query p L)
 
   module _ (F : Faultless points query) where
-    none_is : length points ≡ 0 → r ≡ Ok None
-    none_is z = measured_told points query r (Ok None) e (none_answered points query F z)
+    none_is : length points ≡ 0 → r ≡ Ok NoPoint
+    none_is z = measured_told points query r (Ok NoPoint) e (none_answered points query F z)
 
     found_is : (length points ≡ 0 → ⊥) → r ≡ point_at (nearest_number points query) (distance_of points query (nearest_number points query))
     found_is s =
@@ -135,7 +136,7 @@ module _ (points : List Float) (query : Place) (r : Measured) (e : measured_numb
         refused = λ i f. (p, q);
         none = λ h. absurd cc;
         empty = λ h F. absurd (F p L.fault);
-        nearest = λ t h. absurd cc;
+        nearest = λ n d h. absurd cc;
         found = λ h F. absurd (F p L.fault);
       }
 
@@ -147,7 +148,7 @@ module _ (points : List Float) (query : Place) (r : Measured) (e : measured_numb
         refused = λ i f. absurd (F i f);
         none = λ h. (empty_is points z, F);
         empty = λ h G. q;
-        nearest = λ t h. absurd cc;
+        nearest = λ n d h. absurd cc;
         found = λ h G. absurd (h (empty_is points z));
       }
 
@@ -159,11 +160,11 @@ module _ (points : List Float) (query : Place) (r : Measured) (e : measured_numb
         refused = λ i f. absurd (F i f);
         none = λ h. absurd cc;
         empty = λ h G. absurd (s (ap length h));
-        nearest = λ t h.
-            let x : t.point ≡ nearest_number points query = cc in
-            let y : t.distance ≡ distance_of points query (nearest_number points query) = cc in
+        nearest = λ n d h.
+            let x : n ≡ nearest_number points query = cc in
+            let y : d ≡ distance_of points query (nearest_number points query) = cc in
             (rw (x, y) (is_nearest F s), F);
-        found = λ h G. (record { point = nearest_number points query; distance = distance_of points query (nearest_number points query) }, q);
+        found = λ h G. (nearest_number points query, distance_of points query (nearest_number points query), q);
       }
 
   says : Says points query r

@@ -1,4 +1,4 @@
--- The lowest of the numbers with the least float: how a search leads to it, and what it has.
+-- The lowest of the numbers with the least float: how searches for smaller ones lead to it, and what it has.
 use Prim.Native.Nat.{ℕ, zero, suc, ◌+◌, ◌-◌, ◌≤◌, ◌<◌}
 use mathlib.Core.Path.{◌≡◌, refl, sym, ap, ◌∙◌, subst}
 use mathlib.Core.Logic.{⊎_elim}
@@ -14,6 +14,7 @@ use Rattle.counting.proofs.Search.{below-or}
 use Rattle.place.specs.declared.Place.{Place}
 use Rattle.place.specs.Place.{place_at}
 use Rattle.nearest.specs.Distance.{squared_distance, least_to, distance_of}
+use Rattle.nearest.specs.work.Distance.{nearer_than}
 use Rattle.nearest.proofs.Order.{Counted, not_greater, not_equal, at_most, not_self, smaller}
 
 -- b is the lowest of the first i numbers with the least of their floats, which is x
@@ -37,20 +38,42 @@ module _ (d : ℕ → Float) where
       rw (a, b)
 
   -- whose float y is smaller, or not
-  pub next_less : {i b : ℕ} {x y : Float} → LeastSoFar d i b x → y ≡ d i → lt y x ≡ true → LeastSoFar d (i + 1) i y
+  next_less : {i b : ℕ} {x y : Float} → LeastSoFar d i b x → y ≡ d i → lt y x ≡ true → LeastSoFar d (i + 1) i y
   next_less {i} R e h = record { some = omega arith; number = sym (next i R.some ∙ rw (← R.number, ← R.float, ← e, h)); float = e }
 
-  pub next_not : {i b : ℕ} {x y : Float} → LeastSoFar d i b x → y ≡ d i → lt y x ≡ false → LeastSoFar d (i + 1) b x
+  next_not : {i b : ℕ} {x y : Float} → LeastSoFar d i b x → y ≡ d i → lt y x ≡ false → LeastSoFar d (i + 1) b x
   next_not {i} R e h = record { some = omega arith; number = sym (next i R.some ∙ rw (← R.number, ← R.float, ← e, h)); float = R.float }
 
+  -- numbers none of which has a smaller one
+  run_not : (j : ℕ) {i b : ℕ} {x : Float} → LeastSoFar d i b x → ((k : ℕ) → i ≤ k → k < i + j → lt (d k) x ≡ false) → LeastSoFar d (i + j) b x
+  run_not zero {i} {b} {x} R h = let e : i ≡ i + 0 = omega arith in subst (λ k. LeastSoFar d k b x) e R
+  run_not (suc j) {i} {b} {x} R h =
+      let e : i + 1 + j ≡ i + suc j = omega arith in
+      subst (λ k. LeastSoFar d k b x) e (run_not j (next_not R refl (h i (omega arith) (omega arith))) (λ k l m. h k (omega arith) (omega arith)))
+
+  -- those up to k
+  run_to : (k : ℕ) {i b : ℕ} {x : Float} → LeastSoFar d i b x → i ≤ k → ((q : ℕ) → i ≤ q → q < k → lt (d q) x ≡ false) → LeastSoFar d k b x
+  run_to k {i} {b} {x} R l h = let e : i + (k - i) ≡ k = omega arith in subst (λ q. LeastSoFar d q b x) e (run_not (k - i) R (λ q a c. h q a (omega arith)))
+
+  -- and then one that has
+  pub run_more : {k i b : ℕ} {x y : Float} → LeastSoFar d i b x → i ≤ k → ((q : ℕ) → i ≤ q → q < k → lt (d q) x ≡ false) → lt (d k) x ≡ true → y ≡ d k → LeastSoFar d (k + 1) k y
+  run_more {k} R l h s e = next_less (run_to k R l h) e (rw e s)
+
   -- after the last number
-  pub reached_all : {n k b : ℕ} {x : Float} → LeastSoFar d k b x → n ≤ k → k - 1 ≤ n - 1 → b ≡ least_to d (n - 1)
-  reached_all {n} {k} R h l = let e : k - 1 ≡ n - 1 = omega arith in R.number ∙ ap (least_to d) e
+  pub run_end : {n i b : ℕ} {x : Float} → LeastSoFar d i b x → i - 1 ≤ n - 1 → ((q : ℕ) → i ≤ q → q < n → lt (d q) x ≡ false) → b ≡ least_to d (n - 1)
+  run_end {n} {i} R l h = elim (dec_lt n i) [
+    | yes g ↦ let e : i - 1 ≡ n - 1 = omega arith in R.number ∙ ap (least_to d) e
+    | no g ↦ (run_to n R (omega arith) h).number
+  ]
 
 -- what a point that is loaded is measured to have
 pub distance_is : (points : List Float) (query : Place) (k : ℕ) {p : Place} {x : Float} → p ≡ place_at points k → x ≡ squared_distance p query → x ≡ distance_of points query k
 unfolding distance_of
 distance_is points query k e h = h ∙ ap (λ (p : Place). squared_distance p query) e
+
+pub nearer_is : (points : List Float) (query : Place) (k : ℕ) (least : Float) (b : Bool) {p : Place} {x : Float} → p ≡ place_at points k → x ≡ squared_distance p query → lt x least ≡ b
+    → nearer_than points query least k ≡ b
+nearer_is points query k least b e h q = ap (λ y. lt y least) (sym (distance_is points query k e h)) ∙ q
 
 -- what is found: each earlier number has a greater float, and no later one a smaller one
 pub record LeastAt (d : ℕ → Float) (n b : ℕ) : Type 0 where

@@ -1,5 +1,5 @@
 -- The answer of the nearest call (02).
-use Rattle.std.specs.Prelude.{ℕ, ◌-◌, ◌%◌, Bool, not, ◌&&◌, ◌||◌, List, [], ◌∷◌, ◌++◌, eqb, length, get_or, Float, Option, Some, None, Result, Ok, Err}
+use Rattle.std.specs.Prelude.{ℕ, ◌-◌, ◌%◌, Bool, not, ◌&&◌, ◌||◌, List, [], ◌∷◌, ◌++◌, eqb, length, get_or, Float, Result, Ok, Err}
 use Rattle.std.specs.Float.{nan, binary64}
 use Rattle.std.specs.Float.Ieee.{fits, is_nan, to_bits}
 use Rattle.answer.specs.declared.Refusal.{Refusal}
@@ -10,21 +10,22 @@ use Rattle.counting.specs.Pick.{pick}
 use Rattle.place.specs.declared.Place.{Place}
 use Rattle.place.specs.Place.{within, coordinates, numbers}
 use Rattle.nearest.specs.declared.Nearest.{Nearest}
+use Rattle.nearest.specs.declared.Nearest.TheVariants.{NoPoint, At}
 use Rattle.nearest.specs.Distance.{least_to, point_count, distance_of}
 
 -- a float of the format that is no NaN: its bits are its own
 abbrev pub has_bits : Float → Bool
 has_bits x = fits binary64 x && not (is_nan x)
 
--- What the call answers: the nearest point, no point, or a refusal.
+-- What the call answers: no point, the nearest point, or a refusal.
 abbrev pub Measured : Type 0
-Measured = Result (Option Nearest) Refusal
+Measured = Result Nearest Refusal
 
 -- The call's answer as numbers: no point is a result without values; a point has its number and the bits of its squared distance, by which no two
 -- floats are alike. What has no bits of its own is given no reading.
-abbrev pub nearest_numbers : Option Nearest → List ℕ
-nearest_numbers None = result_of []
-nearest_numbers (Some p) = pick (has_bits p.distance) (result_of (p.point ∷ to_bits binary64 p.distance ∷ [])) []
+abbrev pub nearest_numbers : Nearest → List ℕ
+nearest_numbers NoPoint = result_of []
+nearest_numbers (At n d) = pick (has_bits d) (result_of (n ∷ to_bits binary64 d ∷ [])) []
 
 abbrev pub measured_numbers : Measured → List ℕ
 measured_numbers (Ok n) = nearest_numbers n

@@ -4,16 +4,17 @@
 ghost use Rattle.std.specs.Prelude.{◌≡◌, position, not};
 ghost use Rattle.place.specs.Place.{within};
 ghost use Rattle.nearest.specs.Distance.{squared_distance};
+ghost use Rattle.nearest.specs.work.Distance.{FindsNearer};
 ghost use Rattle.nearest.specs.Answer.{measured_numbers, nearest_number, nearest_answer};
 
 use answer::{Refusal, Row};
 use place::Place;
 
-// The nearest point: its number, and its squared distance.
+// No point, or the number of the nearest one and its squared distance.
 #[derive(Clone, Copy, Debug, PartialEq)]
-pub struct Nearest {
-    pub point: usize,
-    pub distance: f64,
+pub enum Nearest {
+    NoPoint,
+    At(usize, f64),
 }
 
 // The squared distance of p from q.
@@ -33,25 +34,35 @@ fn first_beyond(numbers: &[f64]) -> Option<usize>
     numbers.iter().position(|x| !place::is_within(*x))
 }
 
-// The number of the nearest point of a list; 0 for a list without a point.
+// The lowest point from `from` on whose squared distance is below `least`.
+fn nearer_from(points: &[f64], query: Place, least: f64, from: usize) -> Option<usize>
+    ensures { FindsNearer points.now query least from result }
+{
+    for k in from..points.len() / 3 {
+        let d = squared_distance(place::load(points, k), query);
+        if d < least {
+            return Some(k);
+        }
+    }
+    None
+}
+
+// The number of the nearest point of a list; 0 for a list without a point. Each search keeps the least distance that it compares with as it is: in one
+// loop that changes it, each turn would wait for the one before.
 fn nearest_of(points: &[f64], query: Place) -> usize
     ensures { result ≡ nearest_number points.now query }
 {
-    let n = points.len() / 3;
     let mut best = 0;
     let mut least = squared_distance(place::load(points, 0), query);
-    for k in 1..n {
-        let d = squared_distance(place::load(points, k), query);
-        if d < least {
-            best = k;
-            least = d;
-        }
+    while let Some(k) = nearer_from(points, query, least, best + 1) {
+        best = k;
+        least = squared_distance(place::load(points, k), query);
     }
     best
 }
 
 // The nearest call: no point for an empty list. The query's numbers have the places after the list's.
-pub fn nearest_point(points: &[f64], query: Place) -> Result<Option<Nearest>, Refusal>
+pub fn nearest_point(points: &[f64], query: Place) -> Result<Nearest, Refusal>
     ensures { measured_numbers result ≡ nearest_answer points.now query }
 {
     let n = points.len();
@@ -65,9 +76,9 @@ pub fn nearest_point(points: &[f64], query: Place) -> Result<Option<Nearest>, Re
         return Err(Row::Points.at(n + t));
     }
     if n == 0 {
-        return Ok(None);
+        return Ok(Nearest::NoPoint);
     }
-    let point = nearest_of(points, query);
-    let distance = squared_distance(place::load(points, point), query);
-    Ok(Some(Nearest { point, distance }))
+    let k = nearest_of(points, query);
+    let d = squared_distance(place::load(points, k), query);
+    Ok(Nearest::At(k, d))
 }

@@ -19,7 +19,7 @@ use Rattle.counting.specs.Stored.{filled}
 use Rattle.counting.proofs.Search.{last_none, last_hit, last_miss, seek_end, seek_hit, seek_miss, seek_start, some_last, last_ext, some_ext}
 use Rattle.counting.proofs.Stored.{filled_at, filled_beyond, length_filled}
 use Rattle.trees.specs.work.Trees.{trees, has_key, top_for, Tops}
-use Rattle.trees.specs.work.Keys.{most_places, key_in, earlier_in, pair_in, pair_has, pair_lacks, below_or, paired_at}
+use Rattle.trees.specs.work.Keys.{most_places, key_in, key_below, earlier_in, pair_in, pair_has, pair_lacks, below_or, paired_at}
 use Rattle.trees.specs.work.Planted.{link_room, planted_of, top_at, KeyTops, Stepping, met, pair_from, PairsMarked, lowest_from, Topped, source_at, spread_at}
 use Rattle.trees.proofs.Trees.{top_le, top_key, top_self, tops_none, tops_more}
 
@@ -35,6 +35,16 @@ module _ (key : ℕ → ℕ) (n : ℕ) (was : List ℕ) where
         same = length-set tops i p ∙ w.same;
         rest = λ k h. get_or-set_other tops i k p 0 (λ q. omega arith) ∙ w.rest k h;
       }
+
+-- the key at a place that there is, and at one that there is not
+module _ (key : ℕ → ℕ) (n i : ℕ) where
+  pub key_there : i < n → key_below n key i ≡ key i
+  unfolding key_below
+  key_there h = rw (lt-ltb i n h) refl
+
+  pub key_beyond : n ≤ i → key_below n key i ≡ 0
+  unfolding key_below
+  key_beyond h = rw (le-ltb i n h) refl
 
 -- links that have room
 module _ (b l n : ℕ) where

@@ -26,6 +26,6 @@ pub(crate) fn put_earlier(keys: &[usize], links: &mut [u16], prev: &mut [u16])
     ensures { prev.new ≡ filled (earlier_in keys.now) (length keys.now) prev.old }
 {
     grow::<&[usize], BRANCHES>(&keys, links, prev);
-    links.fill(0);
+    links[..keys.len() + 1].fill(0);
     step(keys, prev, links);
 }

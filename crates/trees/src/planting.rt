@@ -2,7 +2,7 @@
 // branches. With two branches keys of 32 bits have ways of 33 places at most, whatever they are, and keys of 64 bits of 65; with four, 17 and 33.
 ghost use Rattle.std.specs.Prelude.{◌≡◌, ℕ, ◌<◌, ◌≤◌, length};
 ghost use Rattle.trees.specs.work.Trees.{Tree, top_for, link_to, Sought};
-ghost use Rattle.trees.specs.work.Keys.{key_in};
+ghost use Rattle.trees.specs.work.Keys.{key_in, key_below};
 ghost use Rattle.trees.specs.work.Planted.{Planting, Growing, Grown, KeyTops, link_room, planted_of};
 
 use crate::{MOST_PLACES, TREES};
@@ -17,10 +17,9 @@ pub trait Keys {
     fn count(&self) -> usize
         ensures { result ≡ places self.now };
 
-    // The key at a place.
+    // The key at a place; 0 where there is no such place.
     fn key(&self, place: usize) -> usize
-        requires { place < places self.now }
-        ensures { result ≡ key_at self.now place };
+        ensures { result ≡ key_below (places self.now) (key_at self.now) place };
 }
 
 impl Keys for &[usize] {
@@ -33,7 +32,7 @@ impl Keys for &[usize] {
     }
 
     fn key(&self, place: usize) -> usize {
-        self[place]
+        if place < self.len() { self[place] } else { 0 }
     }
 }
 
@@ -77,6 +76,7 @@ fn plant_one<K: Keys, const B: usize>(keys: &K, i: usize, links: &mut [u16]) -> 
 // Plants all places, and fills in, for each, one more than the last with its key.
 pub(crate) fn grow<K: Keys, const B: usize>(keys: &K, links: &mut [u16], tops: &mut [u16])
     requires { Growing B (K.key_at keys.now) (K.places keys.now) links.old tops.old }
+    ensures same { length links.new ≡ length links.old }
     ensures tree { Tree B (K.key_at keys.now) (K.places keys.now) 0 links.new }
     ensures key_tops { KeyTops (K.key_at keys.now) (K.places keys.now) 0 tops.old tops.new }
 {
@@ -103,7 +103,11 @@ impl<K: Keys> Keys for First<'_, K> {
     }
 
     fn key(&self, place: usize) -> usize {
-        self.keys.key(place)
+        if place < self.count {
+            self.keys.key(place)
+        } else {
+            0
+        }
     }
 }
 
@@ -112,7 +116,7 @@ impl<K: Keys> Keys for First<'_, K> {
 pub struct Forest<'k, K: Keys, const B: usize> {
     pub keys: &'k K,
     pub count: usize,
-    links: &'k [u16],
+    links: &'k mut [u16],
     ghost within: { count ≤ K.places keys.now },
     ghost grown: { 0 < count → Grown B (K.key_at keys.now) count links.now },
 }
@@ -144,7 +148,8 @@ pub(crate) fn plant_all<'k, K: Keys, const B: usize>(
     Forest { keys, count, links }
 }
 
-// Plants as many of the places as links and tops have room for, 12,288 at most, and fills in, for each, one more than the last of them with its key.
+// Plants as many of the places as links and tops have room for, 12,288 at most, and fills in, for each, one more than the last of them with its key. What
+// stood in the links goes.
 pub fn plant<'k, K: Keys, const B: usize>(
     keys: &'k K,
     links: &'k mut [u16],
@@ -152,6 +157,7 @@ pub fn plant<'k, K: Keys, const B: usize>(
 ) -> Forest<'k, K, B>
     ensures keys { result.keys.now ≡ keys.now }
     ensures count { result.count ≡ planted_of B (K.places keys.now) (length links.old) (length tops.old) }
+    ensures links { result.links.ghost_name ≡ links.entry.ghost_name }
     ensures key_tops { KeyTops (K.key_at keys.now) result.count 0 tops.old tops.new }
 {
     let count = keys

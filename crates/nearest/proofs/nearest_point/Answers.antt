@@ -23,5 +23,5 @@ returns-then-n-eq0 c = none_answered _ _ (faultless _ _ (search rules) c.in_defa
 
 pub returns : goal.returns
 returns c =
-    found_answered _ _ (faultless _ _ (search rules) c.in_default.ensures c.in_default-first_beyond.ensures) c.if-n-eq0.false _ _ c.nearest_of-point.ensures
-    (distance_is _ _ _ c.load.ensures c.squared_distance-distance.ensures)
+    found_answered _ _ (faultless _ _ (search rules) c.in_default.ensures c.in_default-first_beyond.ensures) c.if-n-eq0.false _ _ c.nearest_of-k.ensures
+    (distance_is _ _ _ c.load.ensures c.squared_distance-d.ensures)

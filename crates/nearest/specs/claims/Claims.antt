@@ -1,9 +1,9 @@
 -- What is proved of the nearest call, besides its contract, in the words of 02.
-use Rattle.std.specs.Prelude.{ℕ, ◌*◌, ◌≤◌, ◌<◌, ◌≡◌, true, false, List, [], Float, Some, None, Ok, Err}
+use Rattle.std.specs.Prelude.{ℕ, ◌*◌, ◌≤◌, ◌<◌, ◌≡◌, true, false, List, [], Float, Ok, Err}
 use Rattle.std.specs.Float.Ieee.{lt, le, eq}
 use Rattle.place.specs.declared.Place.{Place}
 use Rattle.place.specs.Place.{float_of, farthest}
-use Rattle.nearest.specs.declared.Nearest.{Nearest}
+use Rattle.nearest.specs.declared.Nearest.TheVariants.{NoPoint, At}
 use Rattle.nearest.specs.Distance.{point_count, distance_of}
 use Rattle.answer.specs.declared.Refusal.{Refusal}
 use Rattle.answer.specs.declared.Row.TheVariants.{Points}
@@ -34,18 +34,18 @@ pub record Says (points : List Float) (query : Place) (answer : Measured) : Type
   -- wherever there is one
   pub refused : (q : ℕ) → Fault points query q → (place : ℕ) × (answer ≡ Err (record { row = Points; place = place }))
   -- no point is answered exactly for an empty list, where nothing is refused
-  pub none : answer ≡ Ok None → (points ≡ []) × Faultless points query
-  pub empty : points ≡ [] → Faultless points query → answer ≡ Ok None
+  pub none : answer ≡ Ok NoPoint → (points ≡ []) × Faultless points query
+  pub empty : points ≡ [] → Faultless points query → answer ≡ Ok NoPoint
   -- a point that is answered is the nearest one
-  pub nearest : (p : Nearest) → answer ≡ Ok (Some p) → IsNearest points query p.point p.distance × Faultless points query
+  pub nearest : (n : ℕ) (d : Float) → answer ≡ Ok (At n d) → IsNearest points query n d × Faultless points query
   -- and one is answered for every other list
-  pub found : (points ≡ [] → ⊥) → Faultless points query → (p : Nearest) × (answer ≡ Ok (Some p))
+  pub found : (points ≡ [] → ⊥) → Faultless points query → (n : ℕ) × (d : Float) × (answer ≡ Ok (At n d))
 
 -- of every answer whose reading is that of the contract
 abbrev pub CallSays : Type 0
 CallSays = (points : List Float) (query : Place) (answer : Measured) → measured_numbers answer ≡ nearest_answer points query → Says points query answer
 
--- the numbers tell the answer: no two values are read as the same answer of the call
+-- the numbers tell the answer: no two values of the enum are read as the same answer of the call
 abbrev pub MeasuredTold : Type 0
 MeasuredTold = (points : List Float) (query : Place) (r s : Measured)
     → measured_numbers r ≡ nearest_answer points query → measured_numbers s ≡ nearest_answer points query → r ≡ s

@@ -19,6 +19,10 @@ place_room keys room = min (min keys room) most_places
 abbrev pub key_in : List ℕ → ℕ → ℕ
 key_in keys i = get_or keys i 0
 
+-- the key at place i, of n places; 0 where there is no such place
+unfoldable pub key_below : ℕ → (ℕ → ℕ) → ℕ → ℕ
+key_below n key i = pick (ltb i n) (key i) 0
+
 -- one more than the last place before j with j's key, or 0
 unfoldable pub earlier_in : List ℕ → ℕ → ℕ
 earlier_in keys j = last (has_key (key_in keys) (key_in keys j)) j

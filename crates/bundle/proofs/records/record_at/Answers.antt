@@ -5,7 +5,7 @@ use Prim.Native.Nat.{◌+◌}
 use mathlib.Core.Path.{refl}
 use Rattle.bundle.proofs.OneRecord.{answer_outside, case_short, case_unknown, case_wrong, case_cut, wide_inside, case_small, case_whole, kind_known}
 use Rattle.bundle.proofs.records.record_at.Goals as goal
-use Rattle.bundle.proofs.records.record_at.Goals.{then-length-via-then-length, then-length-via-else-length+then-bytes-start-2, In-Ok}
+use Rattle.bundle.proofs.records.record_at.Goals.{In-Ok}
 
 -- the kind's number stands after the length
 kind_read : (c : In-Ok) → kind_number c.in-Ok.kind ≡ word c.args.bytes.now (c.args.start + 2)
@@ -22,12 +22,13 @@ returns-in_default c = ap refusal_numbers c.at-2.ensures ∙ case_unknown _ _ c.
 
 pub returns-then-length : goal.returns-then-length
 returns-then-length c =
-    let k = kind_read (goal.at.returns-then-length c).In-Ok in
     ap refusal_numbers c.at-2.ensures
-    ∙ elim c.then-length.branch [
-      | then-length-via-then-length w ↦ case_wrong _ _ c.if-bytes-start.false _ _ _ c.word_at-length.ensures k c.length.ensures w.if-length.true
-      | then-length-via-else-length+then-bytes-start-2 w ↦ case_cut _ _ c.if-bytes-start.false _ _ _ c.word_at-length.ensures k c.length.ensures w.if-bytes-start-2.true
-    ]
+    ∙ case_wrong _ _ c.if-bytes-start.false _ _ _ c.word_at-length.ensures (kind_read (goal.at.returns-then-length c).In-Ok) c.length.ensures c.if-length.true
+
+pub returns-then-bytes-start-2 : goal.returns-then-bytes-start-2
+returns-then-bytes-start-2 c =
+    ap refusal_numbers c.at-2.ensures
+    ∙ case_cut _ _ c.if-bytes-start.false _ _ _ c.word_at-length.ensures (kind_read (goal.at.returns-then-bytes-start-2 c).In-Ok) c.length.ensures c.if-bytes-start-2.true
 
 pub may_have-requires : goal.may_have-requires
 may_have-requires c = wide_inside c.args.bytes.now c.args.start c.if-bytes-start.false _ _ _ c.word_at-length.ensures (kind_read (goal.at.may_have-requires c).In-Ok) c.length.ensures c.if-length.false c.if-bytes-start-2.false

@@ -1,0 +1,2 @@
+-- What only contracts of parts and proofs cite.
+pub mod Distance
