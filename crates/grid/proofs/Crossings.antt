@@ -1,9 +1,10 @@
 -- Starts of the edges, and the number of crossings.
 use Prim.Native.Nat.{ℕ, ◌+◌, ◌<◌, ◌≤◌}
-use mathlib.Core.Path.{◌≡◌, refl}
+use mathlib.Core.Path.{◌≡◌, refl, sym}
 use mathlib.Core.Logic.{⊎_elim}
 use mathlib.Core.Bool.{false, true}
 use mathlib.Core.List.{List}
+use native.Mathlib.Decide.{dec_lt}
 use native.Mathlib.Nat.{eq-or-lt_of_le}
 use native.Mathlib.Numerals.{add-one}
 use native.Mathlib.Omega.{arith}
@@ -46,6 +47,19 @@ module _ (counts : List ℕ) where
   pub not_too_many : crossings counts ≤ most_crossings → too_many counts ≡ false
   unfolding too_many
   not_too_many h = le-ltb most_crossings (crossings counts) h
+
+  -- what the cap tells
+  pub over_capped : most_crossings < capped counts → too_many counts ≡ true
+  over_capped h = elim (dec_lt most_crossings (crossings counts)) [
+    | yes l ↦ too_many_is l
+    | no l ↦ absurd (omega (arith, h, capped_is (omega arith)))
+  ]
+
+  pub fine_capped : capped counts ≤ most_crossings → (too_many counts ≡ false) × (capped counts ≡ crossings counts)
+  fine_capped h = elim (dec_lt most_crossings (crossings counts)) [
+    | yes l ↦ absurd (omega (arith, h, capped_over l))
+    | no l ↦ (not_too_many (omega arith), sym (capped_is (omega arith)))
+  ]
 
 -- one count is set: the starts up to its edge stay, and those after it change as the count does
 module _ (counts : List ℕ) (e x : ℕ) where
