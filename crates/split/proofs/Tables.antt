@@ -1,5 +1,5 @@
 -- What is drawn of the cells of a grid's tables: how much it is, and that each cell can be written.
-use Prim.Native.Nat.{ℕ, ◌+◌, ◌-◌, ◌*◌, ◌%◌, ◌≤◌, ◌<◌}
+use Prim.Native.Nat.{ℕ, suc, ◌+◌, ◌-◌, ◌*◌, ◌%◌, ◌≤◌, ◌<◌}
 use mathlib.Core.Path.{◌≡◌, refl, sym, ap, ◌∙◌}
 use mathlib.Core.Bool.{Bool, true, false}
 use mathlib.Core.List.{List, ◌++◌}
@@ -11,8 +11,8 @@ use Rattle.counting.specs.Lists.{total, over}
 use Rattle.counting.specs.work.Stored.{Stored}
 use Rattle.counting.proofs.Fronts.{over_split}
 use Rattle.counting.proofs.Lists.{length_singles, values_at, gather_over}
-use Rattle.counting.proofs.Range.{total_ext, total_add, total_has, length_over, over_ext}
-use Rattle.counting.proofs.Stored.{stored_long, stored_as, stored_then}
+use Rattle.counting.proofs.Range.{total_ext, total_add, total_has, length_over, over_ext, over_snoc}
+use Rattle.counting.proofs.Stored.{stored_none, stored_long, stored_as, stored_then}
 use Rattle.slots.specs.Limits.{most_cells}
 use Rattle.cell.specs.declared.Cell.{Cell}
 use Rattle.cell.specs.claims.Table.{short_limit, side, table_cell, taken_counts, drawn_cells, table_triangles}
@@ -20,7 +20,8 @@ use Rattle.cell.specs.Of.{count_of, start_of}
 use Rattle.cell.specs.Level.{by_edge}
 use Rattle.cell.specs.declared.Triangle.{Triangle}
 use Rattle.cell.specs.Words.{word_count, words, all_words}
-use Rattle.cell.specs.Triangles.{cell_triangles}
+use Rattle.cell.specs.Triangles.{cell_triangles, triangles_with}
+use Rattle.cell.proofs.Taken.{with_all}
 use Rattle.cell.proofs.Values.{taken_is}
 use Rattle.cell.proofs.Storing.{length_all, words_of, written_all, written_room}
 use Rattle.booking.specs.Figures.{splits}
@@ -45,6 +46,17 @@ module _ {A : Type 0} (f : ℕ → List A) (p k : ℕ) (l : p ≤ k) (e : ℕ) (
       let q : p + (k - p) ≡ k = omega arith in
       ap (λ n. over f n p) s ∙ over_split f (k - p) (e - k) p ∙ ap (λ n. over f (k - p) p ++ over f (e - k) n) q
 
+  cut_long : length (over f (e - p) p) ≡ length (over f (k - p) p) + length (over f (e - k) k)
+  cut_long = ap length over_cut ∙ length-append (over f (k - p) p) (over f (e - k) k)
+
+-- one list more
+module _ {A : Type 0} (f : ℕ → List A) (p k : ℕ) (l : p ≤ k) where
+  over_next : over f (k + 1 - p) p ≡ over f (k - p) p ++ f k
+  over_next =
+      let s : k + 1 - p ≡ suc (k - p) = omega arith in
+      let q : p + (k - p) ≡ k = omega arith in
+      ap (λ n. over f n p) s ∙ over_snoc f (k - p) p ∙ ap (λ n. over f (k - p) p ++ f n) q
+
 -- the same from 0 on
 module _ {A : Type 0} (f : ℕ → List A) (k e : ℕ) (m : k ≤ e) where
   over_up : over f e 0 ≡ over f k 0 ++ over f (e - k) k
@@ -56,6 +68,35 @@ module _ {A : Type 0} (f : ℕ → List A) (k e : ℕ) (m : k ≤ e) where
 -- the words of the loops' triangles of a cell
 abbrev loops_at : (cells counts names sides starts : List ℕ) → ℕ → List ℕ
 loops_at cells counts names sides starts k = all_words (cell_triangles (table_cell cells counts names sides starts k))
+
+-- those of the cells from c on, cell after cell: those up to k are stored
+module _ (cells counts names sides starts : List ℕ) (c : ℕ) where
+  abbrev loops : ℕ → List ℕ
+  loops = loops_at cells counts names sides starts
+
+  pub each_none : (was : List ℕ) (at : ℕ) → Stored was at (loop_words cells counts names sides starts c (c - c)) was at
+  unfolding over
+  each_none was at = let e : c - c ≡ 0 = omega arith in rw e (stored_none was at)
+
+  module _ {was : List ℕ} {at k : ℕ} {is : List ℕ} {i : ℕ} (l : c ≤ k) (S : Stored was at (loop_words cells counts names sides starts c (k - c)) is i)
+      {v : Cell} (q : v ≡ table_cell cells counts names sides starts k) where
+    loops_with : all_words (triangles_with v 0) ≡ loops k
+    loops_with = ap (λ v. all_words (triangles_with v 0)) q ∙ ap all_words (with_all (table_cell cells counts names sides starts k))
+
+    pub each_room : {e : ℕ} → k < e → at + length (loop_words cells counts names sides starts c (e - c)) ≤ length was → i + length (all_words (triangles_with v 0)) ≤ length is
+    each_room {e} h room =
+        omega (
+          arith,
+          room,
+          S.after,
+          stored_long S,
+          ap length loops_with,
+          cut_long loops c (k + 1) (omega arith) e (omega arith),
+          ap length (over_next loops c k l) ∙ length-append (over loops (k - c) c) (loops k),
+        )
+
+    pub each_more : {is' : List ℕ} {j : ℕ} → Stored is i (all_words (triangles_with v 0)) is' j → Stored was at (loop_words cells counts names sides starts c (k + 1 - c)) is' j
+    each_more T = stored_as (stored_then S (stored_as T loops_with refl)) (sym (over_next loops c k l)) refl
 
 -- one cell more without splits
 pub none_more : (counts sides : List ℕ) {c e : ℕ} → ((k : ℕ) → c ≤ k → k < e → splits_at counts sides k ≡ 0) → splits_at counts sides e ≡ 0
