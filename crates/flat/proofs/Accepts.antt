@@ -19,7 +19,7 @@ use Rattle.answer.specs.Rows.{whole, Clear}
 use Rattle.answer.specs.claims.Faults.{AllClear, row_at}
 use Rattle.answer.specs.work.Faults.{numbered, since}
 use Rattle.answer.proofs.Numbers.{answer_tells}
-use Rattle.answer.proofs.Rows.{clear_answer, clear_or_refusal, clear_since, refusal_answer, refused_by, result_clear, result_is}
+use Rattle.answer.proofs.Rows.{answer_some, clear_answer, clear_or_refusal, clear_since, refusal_answer, refused_by, result_clear, result_is}
 use Rattle.slots.specs.Limits.{most_count, highest_node, most_crossings}
 use Rattle.slots.specs.Slots.{lower, upper}
 use Rattle.grid.specs.Grid.{Before, count_of, crossings, high, joins, low}
@@ -320,6 +320,11 @@ fault_refused G n p h e = refused_by (rows G) (crossings G.counts ∷ []) n p h 
 pub accepts_or_refuses : AcceptsOrRefuses
 unfolding flat_answer
 accepts_or_refuses G = ⊎_elim (λ (h : AllClear (rows G)). inl (clear_answer (rows G) (result_of (crossings G.counts ∷ [])) h)) inr (clear_or_refusal (rows G))
+
+-- there is always an answer
+pub never_empty : (G : FlatGrid) → [] ≡ flat_answer G → ⊥
+unfolding flat_answer
+never_empty G q = answer_some (rows G) (crossings G.counts ∷ []) q
 
 -- an answer that is a result is the number of crossings
 pub accepted_is : (G : FlatGrid) → accepts G ≡ true → flat_answer G ≡ result_of (crossings G.counts ∷ [])

@@ -6,12 +6,14 @@ use mathlib.Core.Bool.{false, true}
 use mathlib.Core.List.{List, [], ◌∷◌}
 use native.Mathlib.Nat.{zero-add}
 use native.Mathlib.Omega.{arith}
+use lib.Dec.{leb}
 use lib.ListN.{get_or, length}
 use lib.Seq.{ext_get_or, sets}
 use borrow.Author.Tests.{le-leb, lt-leb}
 use Rattle.answer.specs.Answer.{refusal, result_of}
 use Rattle.answer.specs.Refusal.{refusal_numbers}
 use Rattle.answer.specs.declared.Refusal.{Refusal}
+use Rattle.answer.proofs.Answer.{no_nil, pick_some}
 use Rattle.answer.proofs.Numbers.{refusal_not, answer_tells}
 use Rattle.counting.specs.Lists.{values}
 use Rattle.counting.specs.Stored.{filled}
@@ -34,7 +36,7 @@ use Rattle.flat.specs.Chains.{chains_words, step}
 use Rattle.flat.specs.claims.Claims.{ChainsTold}
 use Rattle.flat.specs.Done.{Done}
 use Rattle.flat.specs.work.Work.{Sides, StepTable, SidesKnown, TracedIn, step_in, dart_step}
-use Rattle.flat.proofs.Accepts.{acceptance_yields, accepted_answer}
+use Rattle.flat.proofs.Accepts.{acceptance_yields, accepted_answer, never_empty}
 use Rattle.flat.proofs.Ports.{grid_darts, segments_hold, step_moves}
 use Rattle.flat.proofs.Room.{words_room}
 use Rattle.flat.proofs.Stepped.{along_step, linked, sides_are}
@@ -173,6 +175,15 @@ module _ (G : FlatGrid) (A : Accepted G) (sides : List ℕ) (S : SidesKnown G si
     pub made_fits : (area : List ℕ) {after : List ℕ} → m ≤ length area → after ≡ filled (λ i. get_or made i 0) m area → TracedIn G area after (result_of (m ∷ []))
     made_fits area h r = room_fits G area m made_count h (copied (chains_words G) list made area (e ∙ ap (sets list 0) words_are) (omega (arith, made_few, made_count)) made_count r)
 
--- the answer is read from one value alone
+-- there is always an answer
+module _ (G : FlatGrid) (room : ℕ) where
+  pub chains_some : [] ≡ chains_answer G room → ⊥
+  unfolding chains_answer words_answer
+  chains_some =
+      pick_some (accepts G) (words_answer (length (chains_words G)) room) (flat_answer G)
+      (pick_some (leb (length (chains_words G)) room) (result_of (length (chains_words G) ∷ [])) (refusal 24 (length (chains_words G))) no_nil no_nil)
+      (never_empty G)
+
+-- it is read from one value alone
 pub chains_told : ChainsTold
 chains_told G room r s a b = answer_tells (λ n. n ∷ []) (λ x y e. cc) r s (a ∙ sym b)
