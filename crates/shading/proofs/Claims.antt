@@ -11,12 +11,15 @@ use lib.Dec.{ltb}
 use lib.ListN.{length, get_or}
 use borrow.Author.Tests.{ltb-true}
 use Rattle.answer.specs.Answer.{result_of, refusal, is_result}
+use Rattle.answer.specs.Rows.{answer_of}
 use Rattle.answer.specs.claims.Faults.{row_at}
 use Rattle.answer.specs.Refusal.{refusal_numbers}
 use Rattle.answer.specs.declared.Refusal.{Refusal}
 use Rattle.answer.specs.declared.Row.{Row}
 use Rattle.answer.specs.declared.Row.TheVariants.{ShadingArea, NoShading as Lacking}
+use Rattle.answer.proofs.Answer.{pick_some}
 use Rattle.answer.proofs.Numbers.{refusal_not, answer_tells}
+use Rattle.answer.proofs.Rows.{answer_some}
 use Rattle.counting.specs.Pick.{pick}
 use Rattle.counting.specs.Search.{every}
 use Rattle.counting.proofs.Bools.{holds_or, clash}
@@ -24,16 +27,22 @@ use Rattle.counting.proofs.Search.{every_is}
 use Rattle.grid.specs.Grid.{Grid, crossings}
 use Rattle.grid.specs.Rows.{rows, grid_answer, accepts}
 use Rattle.grid.specs.claims.Accepted.{Accepted, Sound}
-use Rattle.grid.proofs.Claims.{accepted_is, fault_refused}
+use Rattle.grid.proofs.Claims.{never_empty, accepted_is, fault_refused}
 use Rattle.grid.proofs.Accepts.{acceptance_yields, accepted_answer}
 use Rattle.grid.proofs.Filled.{refused_keeps}
 use Rattle.shading.specs.Marks.{most_nodes, unshaded, side_bytes}
 use Rattle.shading.specs.claims.Shading.{IsShading, NoShading, IsShadingArea}
-use Rattle.shading.specs.Answer.{Shaded, shading_numbers, shading_answer}
+use Rattle.shading.specs.Answer.{Shaded, shading_numbers, shading_rows, shading_answer}
 use Rattle.shading.specs.Done.{Done}
 use Rattle.shading.specs.claims.Claims.{Says, CallSays, ShadingTold}
 use Rattle.shading.proofs.Shadings.{shading_agrees, labels_shade, lacking, sides_shade, sides_are, only_sides}
 use Rattle.shading.proofs.Calls.{answers_19, answers_20, answers_result, kept_answer, rows-answer, area_by}
+
+-- there is always an answer
+module _ (G : Grid) (room : ℕ) where
+  pub shading_some : [] ≡ shading_answer G room → ⊥
+  unfolding shading_answer
+  shading_some = pick_some (accepts G) (answer_of (shading_rows G room) (result_of [])) (grid_answer G) (answer_some (shading_rows G room) []) (never_empty G)
 
 pub shading_told : ShadingTold
 shading_told G room r s a b = answer_tells (λ _. []) (λ x y _. refl) r s (a ∙ sym b)
