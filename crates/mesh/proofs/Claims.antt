@@ -1,23 +1,62 @@
 -- The numbers tell the answer; segments could alternate; the splits are few; the loops of a cell are ordered by p0.
 use Rattle.std.specs.Prelude.{Option, Some, None, Result, Ok, Err}
-use Prim.Native.Nat.{ℕ}
+use Prim.Native.Nat.{ℕ, ◌*◌}
 use mathlib.Core.Path.{◌≡◌, sym, ap, ap₂, ◌∙◌}
 use mathlib.Core.List.{List, [], ◌∷◌}
+use lib.Dec.{ltb, leb}
+use lib.ListN.{length, drop}
+use Rattle.answer.specs.Answer.{result_of, refusal}
 use Rattle.answer.specs.declared.Refusal.{Refusal}
+use Rattle.answer.proofs.Answer.{no_nil, pick_some}
 use Rattle.answer.proofs.Numbers.{row_not, refusal_tells, answer_tells}
 use Rattle.face.proofs.Rim.{alternating}
+use Rattle.cell.specs.declared.Cell.{Cell}
 use Rattle.cell.specs.declared.Loop.{Loop}
 use Rattle.cell.specs.Of.{edges_of}
+use Rattle.cell.specs.Loop.{leasts, loop_told, loop_answer}
 use Rattle.cell.proofs.Claims.{one_to_one, ordered}
-use Rattle.grid.specs.Grid.{cell_count}
+use Rattle.cell.specs.declared.Triangle.{Triangle}
+use Rattle.cell.specs.Words.{word_count}
+use Rattle.grid.specs.Grid.{Grid, cell_count}
+use Rattle.grid.specs.Rows.{accepts, grid_answer}
 use Rattle.grid.proofs.Accepts.{acceptance_yields}
+use Rattle.grid.proofs.Claims.{never_empty}
 use Rattle.split.proofs.Claims.{splits_few, drawn_ordered}
 use Rattle.mesh.specs.declared.sizes.Mesh.{Mesh}
-use Rattle.mesh.specs.Mesh.{grid_cell, mesh_splits}
-use Rattle.mesh.specs.Answer.{mesh_answer}
+use Rattle.mesh.specs.Mesh.{grid_cell, mesh_triangles, mesh_splits}
+use Rattle.mesh.specs.Room.{room_answer}
+use Rattle.mesh.specs.Asked.{cell_loop, asked_loop}
+use Rattle.mesh.specs.Answer.{mesh_answer, loops_answer}
 use Rattle.mesh.specs.Numbers.{mesh_numbers, loops_numbers}
 use Rattle.mesh.specs.claims.Claims.{MeshTold, LoopsTold, CanAlternate, FewSplits, LoopsOrdered, PartsOrdered}
 use Rattle.mesh.proofs.Complex.{separate, fit}
+
+-- there is always an answer
+module _ (G : Grid) where
+  pub mesh_some : (room : ℕ) → [] ≡ mesh_answer G room → ⊥
+  unfolding mesh_answer room_answer
+  mesh_some room =
+      pick_some (accepts G) (room_answer mesh (mesh_splits G) room) (grid_answer G)
+      (pick_some (leb (word_count * length mesh) room) (result_of (length mesh ∷ mesh_splits G ∷ [])) (refusal 12 (length mesh)) no_nil no_nil)
+      (never_empty G)
+    where
+      mesh : List Triangle
+      mesh = mesh_triangles G
+
+  loop_some : (c : Cell) (k : ℕ) → [] ≡ cell_loop c k → ⊥
+  unfolding loop_answer loop_told
+  loop_some c k = go (drop k (leasts (edges_of c)))
+    where
+      go : (l : List ℕ) → [] ≡ loop_told (edges_of c) c.nodes l → ⊥
+      go [] q = no_nil q
+      go (p ∷ l) q = no_nil q
+
+  pub loops_some : (c k : ℕ) → [] ≡ loops_answer G c k → ⊥
+  unfolding loops_answer asked_loop
+  loops_some c k =
+      pick_some (accepts G) (asked_loop (grid_cell G) (cell_count G.cells) c k) (grid_answer G)
+      (pick_some (ltb c (cell_count G.cells)) (cell_loop (grid_cell G c) k) (refusal 11 c) (loop_some (grid_cell G c) k) no_nil)
+      (never_empty G)
 
 -- two answers with one reading
 module _ (answer : List ℕ) where
