@@ -10,7 +10,7 @@ use lib.Ieee.{Float}
 use borrow.Author.Tests.{ltb-false, eqb-true, not-false}
 use Rattle.answer.specs.Answer.{result_of, is_result}
 use Rattle.answer.specs.work.Faults.{numbered, since}
-use Rattle.answer.proofs.Rows.{clear_since, result_clear}
+use Rattle.answer.proofs.Rows.{answer_some, clear_since, result_clear}
 use Rattle.counting.specs.Pick.{pick}
 use Rattle.counting.proofs.Bools.{clash, or_none}
 use Rattle.grid.specs.Grid.{Grid, crossings}
@@ -49,6 +49,11 @@ module _ (cells counts : List ℕ) (nodes fractions : List Float) (needed room :
       let a = result_clear rows (needed ∷ []) rows_numbered (ap is_result h) in
       let l = lists_fine (clear_since rows 15 a 0 (omega arith)) in
       record { fractions_long = l.0; area_long = l.1; numbers_fine = clear_since rows 16 a; fractions_fine = clear_since rows 17 a }
+
+  -- the rows' answer has a first number
+  pub rows_some : [] ≡ rows_answer cells counts nodes fractions needed room → ⊥
+  unfolding rows_answer
+  rows_some = answer_some (place_rows cells counts nodes fractions needed room) (needed ∷ [])
 
 -- what a result of the places call tells
 pub record Passed (G : Grid) (nodes fractions : List Float) (room : ℕ) : Type 1 where
