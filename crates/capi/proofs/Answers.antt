@@ -2,10 +2,13 @@
 use Rattle.std.specs.Prelude.{Option, Some, None, Result, Ok, Err}
 use Prim.Native.Nat.{ℕ}
 use mathlib.Core.Path.{◌≡◌, refl, subst}
-use mathlib.Core.List.{List}
+use mathlib.Core.List.{List, []}
 use Rattle.answer.specs.Answer.{result_of}
 use Rattle.answer.specs.Refusal.{answer_numbers}
 use Rattle.answer.specs.declared.Refusal.{Refusal}
+use Rattle.grid.specs.Grid.{Grid}
+use Rattle.grid.specs.Opening.{opened, open_answer}
+use Rattle.grid.proofs.Claims.{never_empty}
 use Rattle.booking.specs.declared.Booking.{Booking}
 use Rattle.booking.specs.Answer.{booking_numbers}
 use Rattle.cases.specs.declared.Case.{Case}
@@ -32,3 +35,8 @@ pub loops_read : (r : Result (Option Loop) Refusal) → answer_numbers (option_v
 loops_read (Ok (Some l)) = refl
 loops_read (Ok None) = refl
 loops_read (Err r) = refl
+
+-- the opening call always answers
+pub open_some : (G : Grid) → [] ≡ open_answer G → ⊥
+unfolding open_answer
+open_some G = never_empty (opened G)
