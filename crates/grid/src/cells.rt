@@ -1,5 +1,5 @@
 // Rows 1, 3, 4 and 5: the cells.
-ghost use Rattle.std.specs.Prelude.{ℕ, slice_index, ◌≡◌, ◌+◌, ◌*◌, ◌/◌, ◌%◌, ◌<◌, ◌≤◌, None};
+ghost use Rattle.std.specs.Prelude.{ℕ, slice_index, ◌≡◌, ◌+◌, ◌*◌, ◌/◌, ◌%◌, ◌<◌, ◌≤◌, None, unwrap_or};
 ghost use Rattle.counting.specs.work.Search.{found};
 ghost use Rattle.slots.specs.Limits.{most_cells};
 ghost use Rattle.grid.specs.Grid.{cell_count, node};
@@ -94,7 +94,7 @@ pub(crate) fn row_4(cells: &[u16], near: &[u16]) -> Option<usize>
 fn pair(keys: &[u16], n: usize, seen: &mut [u16], near: &mut [u16]) -> Option<usize>
     requires { Pairable keys.now n seen.old near.old }
     ensures value { result ≡ found (third_at keys.now) n }
-    ensures mates { result ≡ None → Mates keys.now n near.new }
+    ensures mates { Mates keys.now (unwrap_or result n) near.new }
 {
     for j in 0..n {
         let Some(p) = earlier(keys[j] as usize, j, seen) else {

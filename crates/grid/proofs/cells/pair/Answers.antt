@@ -30,7 +30,7 @@ pub returns-then-near-p-ne0 : goal.returns-then-near-p-ne0
 returns-then-near-p-ne0 c = let w = c.loop-j.invariant in
     let r = meets_place c.args.keys.now w.3 (c.requires.known c.loop-j.j (omega arith)) _ c.in-Some.ensures.value in
     let t = third_there w.2 _ r (omega (arith, c.if-near-p-ne0.true)) in
-    record { value = found_hit _ _ _ (omega arith) t w.0; mates = λ e. absurd cc }
+    record { value = found_hit _ _ _ (omega arith) t w.0; mates = w.2 }
 
 pub overflow_add-near : goal.overflow_add-near
 overflow_add-near c = let r = meets_place c.args.keys.now c.loop-j.invariant.3 (c.requires.known c.loop-j.j (omega arith)) _ c.in-Some.ensures.value in
@@ -59,4 +59,4 @@ loop-j-preserved c = let w = c.loop-j.invariant in
 pub returns : goal.returns
 returns c = let w = c.loop-j.invariant in
     let e : c.loop-j.j ≡ c.args.n = omega arith in
-    record { value = found_end _ _ (λ i h. w.0 i (omega arith)); mates = λ q. rw (← e) w.2 }
+    record { value = found_end _ _ (λ i h. w.0 i (omega arith)); mates = rw (← e) w.2 }

@@ -8,7 +8,7 @@ pub returns-in_err-third : goal.returns-in_err-third
 returns-in_err-third c = let p = c.requires in
     record {
       value = rw c.from_residual.ensures (block_none _ _ 4 _ (omega arith) (third_first _ p.rising_cells _ p.slots) (sym c.in_err-third.was ∙ c.pair.ensures.value));
-      neighbours = λ e. mates_near _ p.rising_cells _ p.slots _ (omega (arith, c.pair.auto.near, p.fresh_2.room)) (c.pair.ensures.mates c.in_err-third.was);
+      neighbours = λ e. mates_near _ p.rising_cells _ p.slots _ (omega (arith, c.pair.auto.near, p.fresh_2.room)) (rw c.in_err-third.was at c.pair.ensures.mates);
     }
 
 pub returns : goal.returns
