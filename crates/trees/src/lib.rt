@@ -56,7 +56,7 @@ fn pairs_within<const LINKS: usize, const PLACES: usize>(
 {
     let mut links = [0u16; LINKS];
     let mut tops = [0u16; PLACES];
-    let forest = planting::plant_all::<&[usize], BRANCHES>(&keys, &mut links, &mut tops);
+    let forest = planting::plant_all::<BRANCHES>(&keys, &mut links, &mut tops);
     let lowest = pairs::mark(pairs, &forest, &mut tops, places);
     pairs::spread(keys.len(), &tops, places);
     lowest

@@ -36,9 +36,40 @@ impl Keys for &[usize] {
     }
 }
 
+// Keys that are asked for at places that there are alone. Of this crate alone, since a public method asks nothing; a key of `Keys` is compared with the
+// number of places first, which a list's planting would pay for at each step.
+trait Placed {
+    ghost places: { Self → ℕ };
+
+    ghost key_at: { Self → ℕ → ℕ };
+
+    // How many places there are.
+    fn count(&self) -> usize
+        ensures { result ≡ places self.now };
+
+    // The key at one of them.
+    fn key(&self, place: usize) -> usize
+        requires { place < places self.now }
+        ensures { result ≡ key_at self.now place };
+}
+
+impl Placed for &[usize] {
+    ghost places = { λ keys. length keys.now };
+
+    ghost key_at = { λ keys. key_in keys.now };
+
+    fn count(&self) -> usize {
+        self.len()
+    }
+
+    fn key(&self, place: usize) -> usize {
+        self[place]
+    }
+}
+
 // Where the way of a key ends, if the places from low on are planted: at the link to the last place with the key, or at an empty one. A link is one more
 // than a place, or 0.
-fn seek<K: Keys, const B: usize>(keys: &K, low: usize, links: &[u16], key: usize) -> usize
+fn seek<K: Placed, const B: usize>(keys: &K, low: usize, links: &[u16], key: usize) -> usize
     requires some { 0 < B }
     requires tree { Tree B (K.key_at keys.now) (K.places keys.now) low links.now }
     ensures { Sought B (K.key_at keys.now) (K.places keys.now) low links.now key result }
@@ -59,7 +90,7 @@ fn seek<K: Keys, const B: usize>(keys: &K, low: usize, links: &[u16], key: usize
 }
 
 // Plants place i, unless a later one with its key stands; those after it are planted. Answers one more than the last place with its key.
-fn plant_one<K: Keys, const B: usize>(keys: &K, i: usize, links: &mut [u16]) -> usize
+fn plant_one<K: Placed, const B: usize>(keys: &K, i: usize, links: &mut [u16]) -> usize
     requires { Planting B (K.key_at keys.now) (K.places keys.now) i links.old }
     ensures value { result ≡ top_for (K.key_at keys.now) (K.places keys.now) (K.key_at keys.now i) }
     ensures tree { Tree B (K.key_at keys.now) (K.places keys.now) i links.new }
@@ -74,7 +105,7 @@ fn plant_one<K: Keys, const B: usize>(keys: &K, i: usize, links: &mut [u16]) -> 
 }
 
 // Plants all places, and fills in, for each, one more than the last with its key.
-pub(crate) fn grow<K: Keys, const B: usize>(keys: &K, links: &mut [u16], tops: &mut [u16])
+pub(crate) fn grow<K: Placed, const B: usize>(keys: &K, links: &mut [u16], tops: &mut [u16])
     requires { Growing B (K.key_at keys.now) (K.places keys.now) links.old tops.old }
     ensures same { length links.new ≡ length links.old }
     ensures tree { Tree B (K.key_at keys.now) (K.places keys.now) 0 links.new }
@@ -93,7 +124,7 @@ struct First<'k, K: Keys> {
     ghost within: { count ≤ K.places keys.now },
 }
 
-impl<K: Keys> Keys for First<'_, K> {
+impl<K: Keys> Placed for First<'_, K> {
     ghost places = { λ first. first.count };
 
     ghost key_at = { λ first. K.key_at first.keys.now };
@@ -103,11 +134,7 @@ impl<K: Keys> Keys for First<'_, K> {
     }
 
     fn key(&self, place: usize) -> usize {
-        if place < self.count {
-            self.keys.key(place)
-        } else {
-            0
-        }
+        self.keys.key(place)
     }
 }
 
@@ -132,19 +159,19 @@ fn room<const B: usize>(links: &[u16]) -> usize
         .unwrap_or(0)
 }
 
-// Plants all places in empty links, and fills in, for each, one more than the last with its key.
-pub(crate) fn plant_all<'k, K: Keys, const B: usize>(
-    keys: &'k K,
+// Plants all places of a list in empty links, and fills in, for each, one more than the last with its key.
+pub(crate) fn plant_all<'k, const B: usize>(
+    keys: &'k &'k [usize],
     links: &'k mut [u16],
     tops: &mut [u16],
-) -> Forest<'k, K, B>
-    requires { Growing B (K.key_at keys.now) (K.places keys.now) links.old tops.old }
+) -> Forest<'k, &'k [usize], B>
+    requires { Growing B (key_in keys.now.now) (length keys.now.now) links.old tops.old }
     ensures keys { result.keys.now ≡ keys.now }
-    ensures count { result.count ≡ K.places keys.now }
-    ensures key_tops { KeyTops (K.key_at keys.now) (K.places keys.now) 0 tops.old tops.new }
+    ensures count { result.count ≡ length keys.now.now }
+    ensures key_tops { KeyTops (key_in keys.now.now) (length keys.now.now) 0 tops.old tops.new }
 {
-    grow::<K, B>(keys, links, tops);
-    let count = keys.count();
+    grow::<&[usize], B>(keys, links, tops);
+    let count = keys.len();
     Forest { keys, count, links }
 }
 

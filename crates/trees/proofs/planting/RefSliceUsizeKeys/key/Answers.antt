@@ -1,4 +1,4 @@
-use Rattle.std.proofs.Common.{sym, ◌∙◌, arith, rules}
+use Rattle.std.proofs.Common.{sym, arith}
 use Rattle.trees.specs.work.Keys.{key_in}
 use Rattle.trees.proofs.Planted.{key_there, key_beyond}
 use Rattle.trees.proofs.planting.RefSliceUsizeKeys.key.Goals as goal
