@@ -119,9 +119,7 @@ fn by_position(c: Cell) -> Cell
     }
 }
 
-// Writes the middles of the fans of a nest whose nodes are at `at`, as points from `i` on, and answers the next point. Not inlined, so that what it keeps is not
-// kept once more for each split that is nested in another.
-#[inline(never)]
+// Writes the middles of the fans of a nest whose nodes are at `at`, as points from `i` on, and answers the next point.
 fn put_fans(c: Cell, at: [Place; 4], area: &mut [f64], i: usize) -> usize
     requires nesting { Nesting c }
     requires c_in_bounds { coordinates * (i + length (fans_in nest_middle at c)) ≤ length area.old }

@@ -139,7 +139,7 @@ pub fn write_inner(tables: Tables, nodes: &[f64], area: &mut [f64], at: usize) -
 }
 
 // Writes the middles of all fans that are drawn, by cell, then part, then loop, from point `at` of the area on, and answers the next point. Of a cell whose middles have no room, or that is not split and has
-// a middle that goes by a point not before the next, nothing is written. About 178 KB of stack, and some 880 bytes for each split that is nested in
+// a middle that goes by a point not before the next, nothing is written. About 178 KB of stack, and some 1,010 bytes for each split that is nested in
 // another.
 pub fn write_drawn_middles(tables: Tables, nodes: &[f64], area: &mut [f64], at: usize) -> usize
     ensures { (area.new, result) ≡ cells_stored (middles_in_cell tables.entry nodes.now) area.old at (drawn_in tables.entry) }

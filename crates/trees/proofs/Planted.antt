@@ -18,9 +18,9 @@ use Rattle.counting.specs.work.Search.{found}
 use Rattle.counting.specs.Stored.{filled}
 use Rattle.counting.proofs.Search.{last_none, last_hit, last_miss, seek_end, seek_hit, seek_miss, seek_start, some_last, last_ext, some_ext}
 use Rattle.counting.proofs.Stored.{filled_at, filled_beyond, length_filled}
-use Rattle.trees.specs.work.Trees.{trees, has_key, top_for, Tops}
+use Rattle.trees.specs.work.Trees.{trees, has_key, top_for, Tops, Tree}
 use Rattle.trees.specs.work.Keys.{most_places, key_in, key_below, earlier_in, pair_in, pair_has, pair_lacks, below_or, paired_at}
-use Rattle.trees.specs.work.Planted.{link_room, planted_of, top_at, KeyTops, Stepping, met, pair_from, PairsMarked, lowest_from, Topped, source_at, spread_at}
+use Rattle.trees.specs.work.Planted.{IsBlank, link_room, planted_of, top_at, KeyTops, Stepping, met, pair_from, PairsMarked, lowest_from, Topped, source_at, spread_at}
 use Rattle.trees.proofs.Trees.{top_le, top_key, top_self, tops_none, tops_more}
 
 -- the loop of `grow`
@@ -67,6 +67,13 @@ module _ (b l n : ℕ) where
   pub planted_all : 0 < b → trees + b * n ≤ l → n ≤ most_places → (tops : ℕ) → n ≤ tops → planted_of b n l tops ≡ n
   unfolding planted_of
   planted_all some room few tops fits = omega (arith, fits_room some room)
+
+-- a tree of no places
+pub tree_blank : (b : ℕ) (key : ℕ → ℕ) (n low : ℕ) (links : List ℕ) → Tree b key n low links → n ≡ 0 → IsBlank links
+tree_blank b key n low links T z y = elim (dec_lt 0 (get_or links y 0)) [
+  | yes h ↦ absurd (omega (arith, z, T.top y h, top_le key n (key (get_or links y 0 - 1))))
+  | no h ↦ omega arith
+]
 
 -- a list of zeros
 pub blank_all : (l : List ℕ) → ((i : ℕ) → i < length l → get_or l i 0 ≡ 0) → (y : ℕ) → get_or l y 0 ≡ 0

@@ -6,7 +6,7 @@ ghost use Rattle.trees.specs.work.Keys.{key_in, pair_in, pair_lacks, paired_at};
 ghost use Rattle.trees.specs.work.Planted.{key_branches, Growing, PairsLent, PairsMarked, Topped, source_at, spread_at};
 
 use crate::BRANCHES;
-use crate::planting::Forest;
+use crate::planting::{Forest, latest_of_all};
 
 // The mark of a last place whose key a pair has, on top of what stands there.
 const MET: usize = 32768;
@@ -28,14 +28,15 @@ pub(crate) fn mark(
     tops: &mut [u16],
     places: &mut [usize],
 ) -> Option<usize>
-    requires { PairsLent forest.now.keys.now.now forest.now.count tops.old places.old }
+    requires lent { PairsLent forest.now.keys.now.now forest.now.count tops.old places.old }
+    requires all { forest.now.count ≡ length forest.now.keys.now.now }
     ensures value { result ≡ found (pair_lacks pairs.now forest.now.keys.now.now forest.now.count) (length pairs.now / 2) }
     ensures pairs_marked { PairsMarked pairs.now (length pairs.now / 2) forest.now.keys.now.now forest.now.count 0 places.old tops.new places.new }
 {
     let mut lowest = None;
     for e in (0..pairs.len() / 2).rev() {
         let key = pair_at(pairs, e);
-        let Some(p) = forest.latest(key) else {
+        let Some(p) = latest_of_all(forest, key) else {
             lowest = Some(e);
             continue;
         };

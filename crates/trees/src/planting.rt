@@ -3,7 +3,7 @@
 ghost use Rattle.std.specs.Prelude.{◌≡◌, ℕ, ◌<◌, ◌≤◌, length};
 ghost use Rattle.trees.specs.work.Trees.{Tree, top_for, link_to, Sought};
 ghost use Rattle.trees.specs.work.Keys.{key_in, key_below};
-ghost use Rattle.trees.specs.work.Planted.{Planting, Growing, Grown, KeyTops, link_room, planted_of};
+ghost use Rattle.trees.specs.work.Planted.{Planting, Growing, Grown, IsBlank, KeyTops, link_room, planted_of};
 
 use crate::{MOST_PLACES, TREES};
 
@@ -36,8 +36,8 @@ impl Keys for &[usize] {
     }
 }
 
-// Keys that are asked for at places that there are alone. Of this crate alone, since a public method asks nothing; a key of `Keys` is compared with the
-// number of places first, which a list's planting would pay for at each step.
+// Keys that are asked for only at places that there are. A trait of this file alone, since a public method asks nothing: the key of a place of `Keys` is told
+// after a test, for which the planting of a list would pay at each step.
 trait Placed {
     ghost places: { Self → ℕ };
 
@@ -107,13 +107,21 @@ fn plant_one<K: Placed, const B: usize>(keys: &K, i: usize, links: &mut [u16]) -
 // Plants all places, and fills in, for each, one more than the last with its key.
 pub(crate) fn grow<K: Placed, const B: usize>(keys: &K, links: &mut [u16], tops: &mut [u16])
     requires { Growing B (K.key_at keys.now) (K.places keys.now) links.old tops.old }
-    ensures same { length links.new ≡ length links.old }
     ensures tree { Tree B (K.key_at keys.now) (K.places keys.now) 0 links.new }
     ensures key_tops { KeyTops (K.key_at keys.now) (K.places keys.now) 0 tops.old tops.new }
 {
     for i in (0..keys.count()).rev() {
         tops[i] = plant_one::<K, B>(keys, i, links) as u16;
     }
+}
+
+// The last place with this key, where one has it; all are planted.
+fn latest_in<K: Placed, const B: usize>(keys: &K, links: &[u16], key: usize) -> Option<usize>
+    requires { Grown B (K.key_at keys.now) (K.places keys.now) links.now }
+    ensures { link_to result ≡ top_for (K.key_at keys.now) (K.places keys.now) key }
+{
+    let at = seek::<K, B>(keys, 0, links, key);
+    (links[at] as usize).checked_sub(1)
 }
 
 // The first `count` places of keys, by themselves.
@@ -146,6 +154,7 @@ pub struct Forest<'k, K: Keys, const B: usize> {
     links: &'k mut [u16],
     ghost within: { count ≤ K.places keys.now },
     ghost grown: { 0 < count → Grown B (K.key_at keys.now) count links.now },
+    ghost blank: { count ≡ 0 → IsBlank links.now },
 }
 
 // For how many places the links have room; for none without branches.
@@ -175,8 +184,8 @@ pub(crate) fn plant_all<'k, const B: usize>(
     Forest { keys, count, links }
 }
 
-// Plants as many of the places as links and tops have room for, 12,288 at most, and fills in, for each, one more than the last of them with its key. What
-// stood in the links goes.
+// Plants as many of the places as links and tops have room for, 12,288 at most, and fills in, for each, one more than the last of them with its key. The
+// links are in the forest from then on, which is only read: they end as planted, and what stood in them is gone.
 pub fn plant<'k, K: Keys, const B: usize>(
     keys: &'k K,
     links: &'k mut [u16],
@@ -211,7 +220,20 @@ impl<K: Keys, const B: usize> Forest<'_, K, B> {
             keys: self.keys,
             count: self.count,
         };
-        let at = seek::<First<K>, B>(&first, 0, self.links, key);
-        (self.links[at] as usize).checked_sub(1)
+        latest_in::<First<K>, B>(&first, self.links, key)
     }
+}
+
+// The same of a list of which all places are planted.
+pub(crate) fn latest_of_all<const B: usize>(
+    forest: &Forest<&[usize], B>,
+    key: usize,
+) -> Option<usize>
+    requires { forest.now.count ≡ length forest.now.keys.now.now }
+    ensures { link_to result ≡ top_for (key_in forest.now.keys.now.now) forest.now.count key }
+{
+    if forest.count == 0 {
+        return None;
+    }
+    latest_in::<&[usize], B>(forest.keys, forest.links, key)
 }

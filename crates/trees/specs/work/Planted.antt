@@ -39,6 +39,10 @@ link_room b links = pick (ltb 0 b) ((links - trees) / b) 0
 unfoldable pub planted_of : ℕ → ℕ → ℕ → ℕ → ℕ
 planted_of b places links tops = min (min (min places tops) (link_room b links)) most_places
 
+-- no place is linked
+abbrev pub IsBlank : List ℕ → Type 0
+IsBlank links = (y : ℕ) → get_or links y 0 ≡ 0
+
 -- the first n places are planted, where there are any
 pub record Grown (b : ℕ) (key : ℕ → ℕ) (n : ℕ) (links : List ℕ) : Type 0 where
   pub some : 0 < b

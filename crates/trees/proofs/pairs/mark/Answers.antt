@@ -22,7 +22,7 @@ few : (c : In-Some) → c.in-Some.p < c.args.forest.now.count
 few c = omega (arith, last c, top_le (key_in c.args.forest.now.keys.now.now) (c.args.forest.now.count) (pair_in c.args.pairs.now (c.loop-e.e - 1)))
 
 pub loop-e-init : goal.loop-e-init
-loop-e-init c = (refl, marked_none _ _ _ _ _ _ c.requires.tops_are, lowest_none _ _)
+loop-e-init c = (refl, marked_none _ _ _ _ _ _ c.requires.lent.tops_are, lowest_none _ _)
 
 pub loop-e-preserved-in_default : goal.loop-e-preserved-in_default
 loop-e-preserved-in_default c =
@@ -32,25 +32,25 @@ loop-e-preserved-in_default c =
     (l.invariant.0, marked_skip _ _ _ _ _ _ h _ _ (rw (up _ c.loop-e-test.true) at l.invariant.1) z, lowest_hit _ _ _ h (lacks _ _ _ _ z))
 
 pub overflow_add-tops : goal.overflow_add-tops
-overflow_add-tops c = omega (arith, few (goal.at.overflow_add-tops c).In-Some, c.requires.few)
+overflow_add-tops c = omega (arith, few (goal.at.overflow_add-tops c).In-Some, c.requires.lent.few)
 
 pub overflow_add-tops-in-loop-e : goal.overflow_add-tops-in-loop-e
-overflow_add-tops-in-loop-e c = omega (arith, few (goal.at.overflow_add-tops-in-loop-e c).In-Some, c.requires.few)
+overflow_add-tops-in-loop-e c = omega (arith, few (goal.at.overflow_add-tops-in-loop-e c).In-Some, c.requires.lent.few)
 
 pub overflow_cast-tops : goal.overflow_cast-tops
-overflow_cast-tops c = omega (arith, few (goal.at.overflow_cast-tops c).In-Some, c.requires.few)
+overflow_cast-tops c = omega (arith, few (goal.at.overflow_cast-tops c).In-Some, c.requires.lent.few)
 
 pub offset_bounds-tops-p : goal.offset_bounds-tops-p
-offset_bounds-tops-p c = omega (arith, few (goal.at.offset_bounds-tops-p c).In-Some, c.requires.few)
+offset_bounds-tops-p c = omega (arith, few (goal.at.offset_bounds-tops-p c).In-Some, c.requires.lent.few)
 
 pub bounds-tops-p : goal.bounds-tops-p
-bounds-tops-p c = omega (arith, few (goal.at.bounds-tops-p c).In-Some, c.requires.tops_are.room, c.loop-e.invariant.0)
+bounds-tops-p c = omega (arith, few (goal.at.bounds-tops-p c).In-Some, c.requires.lent.tops_are.room, c.loop-e.invariant.0)
 
 pub offset_bounds-places-p : goal.offset_bounds-places-p
-offset_bounds-places-p c = omega (arith, few (goal.at.offset_bounds-places-p c).In-Some, c.requires.few)
+offset_bounds-places-p c = omega (arith, few (goal.at.offset_bounds-places-p c).In-Some, c.requires.lent.few)
 
 pub bounds-places-p : goal.bounds-places-p
-bounds-places-p c = omega (arith, few (goal.at.bounds-places-p c).In-Some, c.requires.room, c.loop-e.invariant.1.same)
+bounds-places-p c = omega (arith, few (goal.at.bounds-places-p c).In-Some, c.requires.lent.room, c.loop-e.invariant.1.same)
 
 pub loop-e-preserved : goal.loop-e-preserved
 loop-e-preserved c =
@@ -60,7 +60,7 @@ loop-e-preserved c =
     let w = rw (up _ c.loop-e-test.true) at l.invariant.1 in
     let low = rw (up _ c.loop-e-test.true) at l.invariant.2 in (
       simp length-set l.invariant.0,
-      marked_more _ _ _ _ _ _ h _ _ w c.requires.room _ (last k),
+      marked_more _ _ _ _ _ _ h _ _ w c.requires.lent.room _ (last k),
       low ∙ lowest_miss _ _ _ h (lacks_not _ _ _ _ (omega (arith, last k))),
     )
 

@@ -16,11 +16,16 @@ grow-requires g c =
 pub invariant_of-result : goal.invariant_of-result
 invariant_of-result g c =
     let within : c.min-count.result ≤ link_room g.row.B (length c.args.links.now) = omega arith in
+    let zeros : (i : ℕ) → i < length c.fill.new.self → get_or c.fill.new.self i 0 ≡ 0 = search (rules, places) in
     record {
       within = omega arith;
       grown = λ h. elim c.if-count-gt0.branch [
         | then-count-gt0 w ↦ rw w.links-is (record { some = (room_fits g.row.B (length c.args.links.now) c.min-count.result within h).0; tree = w.grow.ensures.tree })
         | else-count-gt0 w ↦ absurd (omega arith)
+      ];
+      blank = λ z. elim c.if-count-gt0.branch [
+        | then-count-gt0 w ↦ absurd (omega (arith, z, w.if-count-gt0.true))
+        | else-count-gt0 w ↦ rw w.links-is (blank_all _ zeros)
       ];
     }
 
