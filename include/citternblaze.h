@@ -26,10 +26,10 @@
  *   System V calling convention, as Linux has it.
  * - Of C's functions memcpy and memset, at most.
  * - Stack: CITTERNBLAZE_STACK_BYTES suffice for any call. A KB here has 1,024
- *   bytes. As measured, the nine calls on a grid take 233 to 620 KB where no split
+ *   bytes. As measured, the nine calls on a grid take 233 to 674 KB where no split
  *   is inside another; with the 2,045 splits of d1 4092 and d2 2, one inside the
- *   other, the mesh call takes 1,242 KB, the run call 1,355 KB, the joined call
- *   1,483 KB and the places call 2,150 KB. The chains call of a flat grid takes
+ *   other, the mesh call takes 1,128 KB, the run call 1,240 KB, the joined call
+ *   1,368 KB and the places call 2,405 KB. The chains call of a flat grid takes
  *   940 KB, its check 172 KB, the bundle reader 148 KB, citternblaze_case 2 KB,
  *   each other call under 1 KB. What a call's text below says it takes is tested
  *   on a thread with exactly that stack.
