@@ -22,8 +22,8 @@
  * "answers" means the numbers that it puts.
  *
  * What the calls need:
- * - A processor of the kind x86-64, with no extension beyond SSE2, and the
- *   System V calling convention, as Linux has it.
+ * - A processor of the level x86-64-v2 (x86-64 with SSE3 to SSE4.2 and POPCNT;
+ *   no AVX), and the System V calling convention, as Linux has it.
  * - Of C's functions memcpy and memset, at most.
  * - Stack: CITTERNBLAZE_STACK_BYTES suffice for any call. A KB here has 1,024
  *   bytes. As measured, the nine calls on a grid take 233 to 674 KB where no split

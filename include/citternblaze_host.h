@@ -7,7 +7,7 @@
  * looks: 250,000 of each take 21 passes over the edges. In a pass an edge finds its look in 17 steps at most, whatever the
  * nodes are.
  *
- * The functions need a processor of the kind x86-64 and the System V calling convention, as Linux has it; up to 192 KB
+ * The functions need a processor of the level x86-64-v2 and the System V calling convention, as Linux has it; up to 192 KB
  * of stack, a KB being 1,024 bytes; of C's functions memset, at most.
  * There is no state between calls: any number of threads may call at once.
  */

@@ -18,6 +18,12 @@ declared() { scripts/declared.sh include/citternblaze.h include/citternblaze_hos
 diff <(exported) <(declared) || fail "what the shared library exports is not what the headers declare"
 [ "$(exported | wc -l)" -eq 23 ] || fail "$(exported | wc -l) functions are exported"
 readelf -d "$prefix/lib/libcitternblaze.so" | grep -q 'soname: \[libcitternblaze.so.0\]' || fail "another soname"
+# no instruction beyond the level x86-64-v2: those of AVX start with v, the others are of BMI, LZCNT and MOVBE (tzcnt is how objdump shows `rep bsf`,
+# which an older processor takes for bsf)
+if objdump -d --no-show-raw-insn "$prefix/lib/libcitternblaze.so" |
+  grep -E '^ +[0-9a-f]+:[[:space:]]+(v[a-z0-9]+|andn|bextr|bls(i|r|msk)|bzhi|mulx|pdep|pext|rorx|sarx|shlx|shrx|lzcnt|movbe)[lqw]?[[:space:]]'; then
+  fail "the library needs more than x86-64-v2"
+fi
 
 # examples, as pkg-config says
 export PKG_CONFIG_PATH=$prefix/lib/pkgconfig LD_LIBRARY_PATH=$prefix/lib
