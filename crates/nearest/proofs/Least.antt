@@ -38,10 +38,10 @@ module _ (d : ℕ → Float) where
       rw (a, b)
 
   -- whose float y is smaller, or not
-  next_less : {i b : ℕ} {x y : Float} → LeastSoFar d i b x → y ≡ d i → lt y x ≡ true → LeastSoFar d (i + 1) i y
+  pub next_less : {i b : ℕ} {x y : Float} → LeastSoFar d i b x → y ≡ d i → lt y x ≡ true → LeastSoFar d (i + 1) i y
   next_less {i} R e h = record { some = omega arith; number = sym (next i R.some ∙ rw (← R.number, ← R.float, ← e, h)); float = e }
 
-  next_not : {i b : ℕ} {x y : Float} → LeastSoFar d i b x → y ≡ d i → lt y x ≡ false → LeastSoFar d (i + 1) b x
+  pub next_not : {i b : ℕ} {x y : Float} → LeastSoFar d i b x → y ≡ d i → lt y x ≡ false → LeastSoFar d (i + 1) b x
   next_not {i} R e h = record { some = omega arith; number = sym (next i R.some ∙ rw (← R.number, ← R.float, ← e, h)); float = R.float }
 
   -- numbers none of which has a smaller one
